@@ -1,0 +1,16 @@
+-- Numbers in decimal, as bytes.
+use Prim.Native.Nat.{ℕ, zero, suc, _+_, _/_, _%_}
+use mathlib.Core.List.{List, [], _∷_, _++_}
+
+-- the digit d as a byte: `0` is 48
+abbrev pub digitByte : ℕ → ℕ
+digitByte d = 48 + d
+
+-- the number n in k decimal digits: led by zeros where it has fewer, its last k where it has more
+abbrev pub decimal : ℕ → ℕ → List ℕ
+decimal zero n = []
+decimal (suc k) n = decimal k (n / 10) ++ (digitByte (n % 10) ∷ [])
+
+-- so many digits always make a number of 32 bits
+abbrev pub mostDigits : ℕ
+mostDigits = 9

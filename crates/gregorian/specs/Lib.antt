@@ -1,0 +1,4 @@
+pub mod Totals
+pub mod Years
+pub mod Dates
+pub mod Weeks
