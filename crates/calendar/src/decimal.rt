@@ -1,13 +1,9 @@
 // Numbers in decimal, in a given number of digits.
-ghost use Rattle.calendar.specs.Decimals.{decimal, mostDigits};
+ghost use Rattle.calendar.specs.Decimals.{decimal, Spells};
 ghost use Rattle.std.specs.Options.{Cases as BySome};
-ghost use lib.ListN.{length, getD};
-ghost use mathlib.Core.Logic.{_⊎_};
+ghost use lib.ListN.{getD};
 ghost use mathlib.Core.Path.{_≡_};
 ghost use Prim.Native.Nat.{ℕ, _<_, _≤_, _^_};
-
-// So many digits always make a u32.
-pub const MOST_DIGITS: usize = 9;
 
 // The byte at `i` of `n` written in `count` digits: absent past the last. Takes `count - i` steps.
 pub fn digit(n: u32, count: usize, i: usize) -> Option<u8>
@@ -25,20 +21,17 @@ pub fn digit(n: u32, count: usize, i: usize) -> Option<u8>
     Some(b'0' + (rest % 10) as u8)
 }
 
-// The number that the bytes write: absent where one of them is no digit, or where they are more
-// than `MOST_DIGITS`. Takes a step for each byte.
+// The number that the bytes spell: none where one of them is no digit, or where the number does not
+// fit 32 bits. Takes a step for each byte.
 pub fn number(bytes: &[u8]) -> Option<u32>
-    ensures { λ r. ⌜ BySome r ((mostDigits < length (now (bytes .entry))) ⊎ ((n : ℕ) → decimal (length (now (bytes .entry))) n ≡ now (bytes .entry) → ⊥)) (λ n. (length (now (bytes .entry)) ≤ mostDigits) × (n < 10 ^ length (now (bytes .entry))) × (decimal (length (now (bytes .entry))) n ≡ now (bytes .entry))) ⌝ }
+    ensures { λ r. ⌜ BySome r ((n : ℕ) → n < 2 ^ 32 → Spells (now (bytes .entry)) n → ⊥) (λ n. Spells (now (bytes .entry)) n) ⌝ }
 {
-    if bytes.len() > MOST_DIGITS {
-        return None;
-    }
-    let mut n = 0;
+    let mut n = 0u32;
     for b in bytes {
         if *b < b'0' || *b > b'9' {
             return None;
         }
-        n = 10 * n + (*b - b'0') as u32;
+        n = n.checked_mul(10)?.checked_add(u32::from(*b - b'0'))?;
     }
     Some(n)
 }

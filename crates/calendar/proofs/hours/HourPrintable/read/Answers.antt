@@ -1,9 +1,10 @@
-use Prim.Native.Nat.{ℕ}
-use mathlib.Core.Path.{refl, _≡_}
-use mathlib.Core.Logic.{⊎-elim}
+use mathlib.Core.Path.{refl}
 use native.Mathlib.Omega.{arith}
 use Rattle.calendar.proofs.Decimals.{part-none}
 use Rattle.calendar.proofs.hours.HourPrintable.read.Needs as need
 
 pub returns-in-None : need.returns-in-None
-returns-in-None c = (refl, λ n h e. part-none 6 n (c .args .bytes .now) (c .if-bytes-ne-WIDTH .left) (omega arith) (c .in-None .ensures tt) e)
+returns-in-None c = (
+  refl,
+  λ n h e. part-none 6 n (c .args .bytes .now) (c .if-bytes-ne-WIDTH .left) (c .in-None .ensures tt) (omega arith) (omega arith) e,
+)

@@ -24,7 +24,7 @@ returns-in-rest c = (
   refl,
   λ n h e.
       let bs = c .args .bytes .now in
-      part-none 4 (dateAt n .year) (take 4 bs) (front bs (c .if-bytes-ne-WIDTH .left)) (omega arith) (c .in-rest .ensures tt) (ap (λ (xs : List ℕ). take 4 xs) e),
+      part-none 4 (dateAt n .year) (take 4 bs) (front bs (c .if-bytes-ne-WIDTH .left)) (c .in-rest .ensures tt) (omega (arith, narrow n h .0)) (narrow n h .0) (ap (λ (xs : List ℕ). take 4 xs) e),
 )
 
 pub returns-in-rest-number : need.returns-in-rest-number
@@ -32,7 +32,7 @@ returns-in-rest-number c = (
   refl,
   λ n h e.
       let bs = c .args .bytes .now in
-      part-none 2 (dateAt n .month) (take 2 (drop 5 bs)) (middle bs (c .if-bytes-ne-WIDTH .left)) (omega arith) (c .in-rest-number .ensures tt)
+      part-none 2 (dateAt n .month) (take 2 (drop 5 bs)) (middle bs (c .if-bytes-ne-WIDTH .left)) (c .in-rest-number .ensures tt) (omega (arith, narrow n h .1)) (narrow n h .1)
       (ap (λ (xs : List ℕ). take 2 (drop 5 xs)) e),
 )
 
@@ -41,7 +41,7 @@ returns-in-rest-number-2 c = (
   refl,
   λ n h e.
       let bs = c .args .bytes .now in
-      part-none 2 (dateAt n .day) (take 2 (drop 8 bs)) (back bs (c .if-bytes-ne-WIDTH .left)) (omega arith) (c .in-rest-number-2 .ensures tt)
+      part-none 2 (dateAt n .day) (take 2 (drop 8 bs)) (back bs (c .if-bytes-ne-WIDTH .left)) (c .in-rest-number-2 .ensures tt) (omega (arith, narrow n h .2)) (narrow n h .2)
       (ap (λ (xs : List ℕ). take 2 (drop 8 xs)) e),
 )
 

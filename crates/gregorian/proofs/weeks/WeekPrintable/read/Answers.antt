@@ -21,7 +21,7 @@ returns-in-rest c = (
   refl,
   λ n h e.
       let bs = c .args .bytes .now in
-      part-none 4 (weekAt n .year) (take 4 bs) (front bs (c .if-bytes-ne-WIDTH .left)) (omega arith) (c .in-rest .ensures tt) (ap (λ (xs : List ℕ). take 4 xs) e),
+      part-none 4 (weekAt n .year) (take 4 bs) (front bs (c .if-bytes-ne-WIDTH .left)) (c .in-rest .ensures tt) (omega (arith, narrow n h .0)) (narrow n h .0) (ap (λ (xs : List ℕ). take 4 xs) e),
 )
 
 pub returns-in-rest-number : need.returns-in-rest-number
@@ -29,7 +29,7 @@ returns-in-rest-number c = (
   refl,
   λ n h e.
       let bs = c .args .bytes .now in
-      part-none 2 (weekAt n .week) (take 2 (drop 6 bs)) (back bs (c .if-bytes-ne-WIDTH .left)) (omega arith) (c .in-rest-number .ensures tt)
+      part-none 2 (weekAt n .week) (take 2 (drop 6 bs)) (back bs (c .if-bytes-ne-WIDTH .left)) (c .in-rest-number .ensures tt) (omega (arith, narrow n h .1)) (narrow n h .1)
       (ap (λ (xs : List ℕ). take 2 (drop 6 xs)) e),
 )
 
