@@ -35,7 +35,7 @@ impl Hour {
     pub fn parts(self) -> u32
         ensures { λ r. ⌜ r ≡ self .count ⌝ }
     {
-        self.count
+        self.place()
     }
 }
 

@@ -1,0 +1,33 @@
+-- What a command answers on a calendar.
+use Prim.Native.Nat.{ℕ, _<_, _≤_}
+use denote.Ref.{now}
+use mathlib.Core.List.{List}
+use mathlib.Core.Logic.{_⊎_}
+use mathlib.Core.Path.{_≡_}
+use Rattle.std.specs.declared.result.Result.{Result}
+use Rattle.std.specs.declared.result.Result.the-variants.{Ok, Err}
+use Rattle.calendar.specs.Refusals.{numberOf}
+use Rattle.script.specs.declared.commands.Command.{Command}
+use Rattle.script.specs.declared.commands.Command.the-variants as command
+use Rattle.script.specs.declared.parts.Parts.{Parts}
+use Rattle.script.specs.declared.replies.Reply.{Reply}
+use Rattle.script.specs.declared.replies.Reply.the-variants.{Done, Place, Stamp, Absent, Commands}
+use Rattle.script.specs.declared.stops.Stop.{Stop}
+use Rattle.script.specs.declared.stops.Stop.the-variants.{Refused, Unread}
+
+-- no answer, since nothing has what was asked for: refused by number 11, or misread
+abbrev pub Fails : Stop → Type 0 → Type 0
+Fails (Refused e) None = (numberOf e ≡ 11) × None
+Fails (Unread m) None = None
+
+-- over a calendar's places, its last place, its texts, and what parts name in it
+module _ {C : Type 0} (place : C → ℕ) (last : ℕ) (text : ℕ → List ℕ) (names : Parts → ℕ → Type 0) where
+  abbrev None : (ℕ → Type 0) → Type 0
+  None P = (n : ℕ) → n ≤ last → P n → ⊥
+
+  abbrev pub Answered : Command → Result (Reply C) Stop → Type 0
+  Answered (command.Choose k) r = r ≡ Ok Done
+  Answered (command.Place t) r = ((n : ℕ) × (r ≡ Ok (Place n)) × (n ≤ last) × (text n ≡ now t)) ⊎ ((e : Stop) × (r ≡ Err e) × Fails e (None (λ n. text n ≡ now t)))
+  Answered (command.Stamp n) r = ((s : C) × (r ≡ Ok (Stamp s)) × (place s ≡ n)) ⊎ ((r ≡ Ok Absent) × (last < n))
+  Answered (command.Named p) r = ((s : C) × (r ≡ Ok (Stamp s)) × names p (place s)) ⊎ ((e : Stop) × (r ≡ Err e) × Fails e (None (names p)))
+  Answered command.Help r = r ≡ Ok Commands
