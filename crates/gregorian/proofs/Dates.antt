@@ -152,12 +152,12 @@ assembled y m d l a b s el eb ea es h1 h2 h3 h4 h5 h6 =
     let p : placeOf (date y m d) ≡ s + b + (d - 1) = omega arith in
     (omega (arith, p, place-to (date y m d) r h2), subst (λ (x : ℕ). dateAt x ≡ date y m d) p (at-date (date y m d) r))
 
-pub read-off : (n k p : ℕ) (l : Bool) (s b : ℕ) → l ≡ leap (1900 + n) → s ≡ yearStart n → b ≡ monthStart l k → yearStart n ≤ p → p < yearStart (n + 1) → k < 12 → monthStart l k ≤ p - s → p - s < monthStart l (k + 1) → dateAt p ≡ date (1900 + n) (k + 1) (p - s - b + 1)
-read-off n k p l s b el es eb h1 h2 h3 h4 h5 =
+pub read-off : (n k p : ℕ) (l : Bool) (s b y m d : ℕ) → l ≡ leap (1900 + n) → s ≡ yearStart n → b ≡ monthStart l k → yearStart n ≤ p → p < yearStart (n + 1) → k < 12 → monthStart l k ≤ p - s → p - s < monthStart l (k + 1) → y ≡ 1900 + n → m ≡ k + 1 → d ≡ p - s - b + 1 → dateAt p ≡ date y m d
+read-off n k p l s b y m d el es eb h1 h2 h3 h4 h5 ey em ed =
     let f : monthStart l k ≡ monthStart (leap (1900 + n)) k = ap (λ (x : Bool). monthStart x k) el in
     let g : monthStart l (k + 1) ≡ monthStart (leap (1900 + n)) (k + 1) = ap (λ (x : Bool). monthStart x (k + 1)) el in
-    let e : p - yearStart n - monthStart (leap (1900 + n)) k + 1 ≡ p - s - b + 1 = omega arith in
-    subst (λ (x : ℕ). dateAt p ≡ date (1900 + n) (k + 1) x) e (found n k p h1 h2 h3 (omega arith) (omega arith))
+    let e : p - yearStart n - monthStart (leap (1900 + n)) k + 1 ≡ d = omega arith in
+    rw (ey, em) (subst (λ (x : ℕ). dateAt p ≡ date (1900 + n) (k + 1) x) e (found n k p h1 h2 h3 (omega arith) (omega arith)))
 
 -- a date by its place
 placed : (n : ℕ) (t : Date) → Real t → placeOf t ≡ n → dateAt n ≡ t

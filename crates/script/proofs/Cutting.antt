@@ -8,8 +8,8 @@ use native.Mathlib.Numerals.{add-one}
 use native.Mathlib.Omega.{arith}
 use lib.Dec.{eqb}
 use lib.ListN.{length, getD, take, drop}
-use Rattle.std.proofs.shelf.Elements.{all-from-getD}
-use Rattle.std.proofs.shelf.Lists.{append-nil, append-assoc, length-append, length-take, length-drop, take-append-drop, getD-drop, getD-take, nil-from-length}
+use Rattle.std.proofs.shelf.Elements.{all-from-getD, all-getD}
+use Rattle.std.proofs.shelf.Lists.{append-nil, append-assoc, length-append, length-take, length-drop, take-append-drop, getD-append-left, getD-drop, getD-take, nil-from-length}
 use Rattle.std.proofs.shelf.Tests.{cases-lt, eqb-true, eqb-false}
 use Rattle.std.proofs.shelf.Text.{boundary-start, boundary-end, boundary-before-ascii, boundary-after-ascii}
 use Rattle.std.specs.Text.{Utf8}
@@ -88,3 +88,18 @@ blank-line line word rest f h =
     let r : rest ≡ [] = nil-from-length rest (f .none h) in
     let g : line ≡ f .gap = f .cut ∙ ap (λ (xs : List ℕ). f .gap ++ (xs ++ rest)) w ∙ ap (λ (xs : List ℕ). f .gap ++ xs) r ∙ append-nil (f .gap) in
     subst Blank (sym g) (f .blank)
+
+second : (xs ys : List ℕ) → Blank (xs ++ ys) → Blank ys
+second [] ys b = b
+second (x ∷ xs) ys b = second xs ys (b .1)
+
+-- a blank line has no word
+pub wordless : (line word rest : List ℕ) → First line word rest → Blank line → length word ≡ 0
+wordless line word rest f b =
+    ⊎-elim
+    (λ some.
+        let whole : Blank (word ++ rest) = second (f .gap) (word ++ rest) (subst Blank (f .cut) b) in
+        let first : getD (word ++ rest) 0 0 ≡ space = all-getD (λ x. x ≡ space) (word ++ rest) 0 0 (omega (arith, length-append word rest)) whole in
+        absurd (all-getD (λ x. x ≡ space → ⊥) word 0 0 some (f .solid) (sym (getD-append-left word rest 0 0 some) ∙ first)))
+    (λ none. omega arith)
+    (cases-lt 0 (length word))

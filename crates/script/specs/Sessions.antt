@@ -1,5 +1,6 @@
 -- What a session replies to a line, and which calendar it has chosen then.
 use Prim.Native.Nat.{ℕ}
+use lib.ListN.{getD}
 use mathlib.Core.List.{List}
 use mathlib.Core.Logic.{_⊎_}
 use mathlib.Core.Path.{_≡_}
@@ -16,7 +17,7 @@ use Rattle.script.specs.Answers.{Answered}
 use Rattle.script.specs.Commands.{Spelled}
 use Rattle.script.specs.Parts.{namesHour, namesDay, namesWeek}
 use Rattle.script.specs.Texts.{Shown, ShownMisread}
-use Rattle.script.specs.Words.{Words}
+use Rattle.script.specs.Words.{Blank, Words}
 use Rattle.script.specs.declared.commands.Command.{Command}
 use Rattle.script.specs.declared.commands.Command.the-variants.{Choose, Place, Stamp, Named, Help}
 use Rattle.script.specs.declared.commands.Kind.{Kind}
@@ -24,6 +25,14 @@ use Rattle.script.specs.declared.commands.Kind.the-variants.{Hours, Days, Week
 use Rattle.script.specs.declared.parts.Parts.{Parts}
 use Rattle.script.specs.declared.replies.Reply.{Reply}
 use Rattle.script.specs.declared.stops.Stop.{Stop}
+
+-- the byte `#`
+abbrev pub remark : ℕ
+remark = 35
+
+-- the line is blank, or begins with `#`
+abbrev pub PassedOver : List ℕ → Type 0
+PassedOver line = Blank line ⊎ (getD line 0 0 ≡ remark)
 
 -- the calendar that is chosen once the command is performed
 abbrev pub chosenAfter : Option Kind → Command → Option Kind

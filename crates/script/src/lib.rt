@@ -5,7 +5,7 @@ pub mod commands;
 pub mod parted;
 pub mod parts;
 pub mod replies;
-pub mod sentences;
+mod sentences;
 pub mod sessions;
 pub mod stops;
 pub mod texts;

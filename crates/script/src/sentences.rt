@@ -4,7 +4,7 @@ use crate::stops::Misread;
 use calendar::Refusal;
 
 // What the refusal means to somebody at the panel.
-pub fn of_refusal(refusal: Refusal) -> &'static str {
+pub(crate) fn of_refusal(refusal: Refusal) -> &'static str {
     match refusal {
         Refusal::AreaTooSmall => "the area is too small for what it is to hold",
         Refusal::AreaUnfit => "a register's area is a whole number of slots, up to a limit",
@@ -28,7 +28,7 @@ pub fn of_refusal(refusal: Refusal) -> &'static str {
 }
 
 // Why the line was not understood, with what to write in its place.
-pub fn of_misread(misread: Misread) -> &'static str {
+pub(crate) fn of_misread(misread: Misread) -> &'static str {
     match misread {
         Misread::UnknownCommand => "no such command; help lists them",
         Misread::WordCount => "too many or too few words; help shows the form",
@@ -41,7 +41,7 @@ pub fn of_misread(misread: Misread) -> &'static str {
 }
 
 // A line for each command.
-pub const COMMANDS: &str = "calendar hours|days|weeks   choose a calendar and start anew
+pub(crate) const COMMANDS: &str = "calendar hours|days|weeks   choose a calendar and start anew
 place STAMP                 the place of a stamp
 stamp PLACE                 the stamp at a place
 parts COUNT                 the hour of that count

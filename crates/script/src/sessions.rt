@@ -1,7 +1,8 @@
 // A session: the chosen calendar, and the reply to each line of a script.
-ghost use Rattle.script.specs.Sessions.{Replied, RepliedOn, Turn, chosenAfter};
+ghost use Rattle.script.specs.Sessions.{PassedOver, Replied, RepliedOn, Turn, chosenAfter};
 ghost use Rattle.script.specs.Texts.{ShownMisread};
 ghost use Rattle.std.specs.Of.String.{string-bytes};
+ghost use Rattle.std.specs.Orderings.{Decides};
 ghost use Rattle.std.specs.Vec.{made};
 ghost use Rattle.std.specs.declared.option.Option.the-variants.{None};
 ghost use mathlib.Core.Path.{_≡_};
@@ -86,8 +87,10 @@ impl Session {
 }
 
 // Whether a line of a script gives no command: it is blank, or begins with `#`. Takes a step for
-// each byte up to the first that is no space.
-pub fn is_passed_over(line: &str) -> bool {
+// each byte up to the end of the first word.
+pub fn is_passed_over(line: &str) -> bool
+    ensures { λ r. ⌜ Decides r (PassedOver (now (line .entry))) ⌝ }
+{
     let (word, _) = first_word(line);
-    word.is_empty() || line.starts_with('#')
+    word.is_empty() || line.as_bytes()[0] == b'#'
 }

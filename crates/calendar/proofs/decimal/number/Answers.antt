@@ -18,13 +18,13 @@ pub returns-in-Break-checked-mul : need.returns-in-Break-checked-mul
 returns-in-Break-checked-mul c =
     rw (c .from-residual .ensures)
     (too-large (c .args .bytes .now) (c .loop-b .b-index) (c .loop-b .n) _ (c .loop-b-test .taken) refl (omega arith, omega arith) (c .loop-b .inv)
-    (let no = c .in-Break-checked-mul .ensures tt in omega arith))
+    (let fails = c .in-Break-checked-mul .ensures tt in omega arith))
 
 pub returns-in-Break-n : need.returns-in-Break-n
 returns-in-Break-n c =
     rw (c .from-residual-in-Break-n .ensures)
     (too-large (c .args .bytes .now) (c .loop-b .b-index) (c .loop-b .n) _ (c .loop-b-test .taken) refl (omega arith, omega arith) (c .loop-b .inv)
-    (let no = c .in-Break-n .ensures tt in omega (arith, c .in-Continue-checked-mul .ensures tt, c .from .ensures)))
+    (let fails = c .in-Break-n .ensures tt in omega (arith, c .in-Continue-checked-mul .ensures tt, c .from .ensures)))
 
 pub loop-b-again : need.loop-b-again
 loop-b-again c =

@@ -11,5 +11,5 @@ month-of-k-requires c κs =
 pub returns : need.returns
 returns c =
     read-off (c .year-of-n .result) (c .month-of-k .result) (c .args .self .number) (c .is-leap-leap .result) (c .year-start .result)
-    (c .month-start .result) (c .is-leap-leap .ensures) (c .year-start .ensures) (c .month-start .ensures) (omega arith) (omega arith) (omega arith)
-    (omega arith) (omega arith)
+    (c .month-start .result) _ _ _ (c .is-leap-leap .ensures) (c .year-start .ensures) (c .month-start .ensures) (omega arith) (omega arith) (omega arith)
+    (omega arith) (omega arith) (omega arith) (omega arith) (omega arith)

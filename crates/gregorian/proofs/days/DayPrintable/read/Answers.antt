@@ -53,7 +53,7 @@ returns c =
     let m = part-some 2 (c .in-Some-number .month) (take 2 (drop 5 bs)) (middle bs l) (c .in-Some-number .ensures tt) in
     let d = part-some 2 (c .in-Some-number-2 .day) (take 2 (drop 8 bs)) (back bs l) (c .in-Some-number-2 .ensures tt) in
     let t = date (c .in-Some .year) (c .in-Some-number .month) (c .in-Some-number-2 .day) in
-    let w = text-bytes bs t l (c .if-bytes-ne45 .left) (c .if-bytes-ne45-2 .left) (y .1) (m .1) (d .1) in
+    let w = text-bytes bs t l (omega arith) (omega arith) (y .1) (m .1) (d .1) in
     cases-weaker (c .from-parts .result) (c .from-parts .ensures) (λ s e. ap dateText e ∙ w)
     (λ r f. (
       f .0,

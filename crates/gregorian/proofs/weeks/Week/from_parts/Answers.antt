@@ -31,7 +31,7 @@ made c =
     (c .week-start .ensures) (omega arith) (omega arith) (omega arith) (omega arith)
 
 pub ghost-result : need.ghost-result
-ghost-result c = (made c .0, tt)
+ghost-result c = (omega (arith, made c .0), tt)
 
 pub returns : need.returns
 returns c = made (need.at·returns c .Else-number-week-start) .1

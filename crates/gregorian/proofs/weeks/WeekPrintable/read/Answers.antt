@@ -40,7 +40,7 @@ returns c =
     let y = part-some 4 (c .in-Some .year) (take 4 bs) (front bs l) (c .in-Some .ensures tt) in
     let w = part-some 2 (c .in-Some-number .week) (take 2 (drop 6 bs)) (back bs l) (c .in-Some-number .ensures tt) in
     let t = week (c .in-Some .year) (c .in-Some-number .week) in
-    let x = text-bytes bs t l (c .if-bytes-ne45 .left) (c .if-bytes-ne87 .left) (y .1) (w .1) in
+    let x = text-bytes bs t l (omega arith) (omega arith) (y .1) (w .1) in
     cases-weaker (c .from-parts .result) (c .from-parts .ensures) (λ s e. ap weekText e ∙ x)
     (λ r f. (
       f .0,
