@@ -11,4 +11,6 @@ pub use hours::HourCalendar;
 pub use hours::HourPrintable;
 pub use orders::Calendar;
 pub use refusals::Refusal;
+pub use refusals::RefusalDebug;
+pub use refusals::RefusalPartialEq;
 pub use writing::Printable;

@@ -30,24 +30,23 @@ ahead text e h f =
 
 -- the first s bytes are spaces and the next is none; of the bytes d after them the first e are none and the next is one
 module _ (line d : List ℕ) (s e : ℕ) (after : d ≡ drop s line)
-  (spaces : (k : ℕ) → k < s → eqb (getD line k 0) space ≡ true)
-  (begins : s < length line → eqb (getD line s 0) space ≡ false)
-  (solid : (k : ℕ) → k < e → eqb (getD d k 0) space ≡ false)
-  (stops : e < length d → eqb (getD d e 0) space ≡ true) where
-
+    (spaces : (k : ℕ) → k < s → eqb (getD line k 0) space ≡ true)
+    (begins : s < length line → eqb (getD line s 0) space ≡ false)
+    (solid : (k : ℕ) → k < e → eqb (getD d k 0) space ≡ false)
+    (stops : e < length d → eqb (getD d e 0) space ≡ true) where
   gap-blank : Blank (take s line)
   gap-blank =
       all-from-getD (λ b. b ≡ space) (take s line) 0
       (λ i h.
-          let l : i < s = omega (arith, length-take s line) in
-          getD-take s line i 0 l ∙ eqb-true (getD line i 0) space (spaces i l))
+      let l : i < s = omega (arith, length-take s line) in
+      getD-take s line i 0 l ∙ eqb-true (getD line i 0) space (spaces i l))
 
   word-solid : Solid (take e d)
   word-solid =
       all-from-getD (λ b. b ≡ space → ⊥) (take e d) 0
       (λ i h p.
-          let l : i < e = omega (arith, length-take e d) in
-          eqb-false (getD d i 0) space (solid i l) (sym (getD-take e d i 0 l) ∙ p))
+      let l : i < e = omega (arith, length-take e d) in
+      eqb-false (getD d i 0) space (solid i l) (sym (getD-take e d i 0 l) ∙ p))
 
   rest-ends : 0 < length (drop e d) → getD (drop e d) 0 0 ≡ space
   rest-ends h =
@@ -59,11 +58,11 @@ module _ (line d : List ℕ) (s e : ℕ) (after : d ≡ drop s line)
   word-none h =
       ⊎-elim
       (λ more.
-          let n : e ≡ 0 = omega (arith, length-take e d) in
-          let z : s + 0 ≡ s = omega arith in
-          let one : getD d 0 0 ≡ getD line s 0 = ap (λ (xs : List ℕ). getD xs 0 0) after ∙ getD-drop s line 0 0 ∙ ap (λ (k : ℕ). getD line k 0) z in
-          let is : getD d 0 0 ≡ space = eqb-true (getD d 0 0) space (subst (λ (k : ℕ). eqb (getD d k 0) space ≡ true) n (stops (omega arith))) in
-          absurd (eqb-false (getD line s 0) space (begins (omega (arith, ap length after, length-drop s line))) (sym one ∙ is)))
+      let n : e ≡ 0 = omega (arith, length-take e d) in
+      let z : s + 0 ≡ s = omega arith in
+      let one : getD d 0 0 ≡ getD line s 0 = ap (λ (xs : List ℕ). getD xs 0 0) after ∙ getD-drop s line 0 0 ∙ ap (λ (k : ℕ). getD line k 0) z in
+      let is : getD d 0 0 ≡ space = eqb-true (getD d 0 0) space (subst (λ (k : ℕ). eqb (getD d k 0) space ≡ true) n (stops (omega arith))) in
+      absurd (eqb-false (getD line s 0) space (begins (omega (arith, ap length after, length-drop s line))) (sym one ∙ is)))
       (λ none. omega (arith, length-drop e d))
       (cases-lt 0 (length d))
 
@@ -98,8 +97,8 @@ pub wordless : (line word rest : List ℕ) → First line word rest → Blank li
 wordless line word rest f b =
     ⊎-elim
     (λ some.
-        let whole : Blank (word ++ rest) = second (f .gap) (word ++ rest) (subst Blank (f .cut) b) in
-        let first : getD (word ++ rest) 0 0 ≡ space = all-getD (λ x. x ≡ space) (word ++ rest) 0 0 (omega (arith, length-append word rest)) whole in
-        absurd (all-getD (λ x. x ≡ space → ⊥) word 0 0 some (f .solid) (sym (getD-append-left word rest 0 0 some) ∙ first)))
+    let whole : Blank (word ++ rest) = second (f .gap) (word ++ rest) (subst Blank (f .cut) b) in
+    let first : getD (word ++ rest) 0 0 ≡ space = all-getD (λ x. x ≡ space) (word ++ rest) 0 0 (omega (arith, length-append word rest)) whole in
+    absurd (all-getD (λ x. x ≡ space → ⊥) word 0 0 some (f .solid) (sym (getD-append-left word rest 0 0 some) ∙ first)))
     (λ none. omega arith)
     (cases-lt 0 (length word))

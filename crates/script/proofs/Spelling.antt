@@ -1,55 +1,68 @@
 -- Words by their places in a line.
-use Prim.Native.Nat.{ℕ, _<_}
+use Prim.Native.Nat.{ℕ, suc, _-_, _<_}
 use denote.Ref.{RefT, now}
 use lib.ListN.{length, getD}
+use mathlib.Core.Bool.{Bool, true, false}
 use mathlib.Core.List.{List, [], _∷_, map}
-use mathlib.Core.Path.{_≡_, ap}
+use mathlib.Core.Path.{_≡_, refl, sym, ap, _∙_}
 use native.Mathlib.Omega.{arith}
-use Rattle.calendar.specs.Decimals.{Spells}
-use Rattle.script.specs.Commands.{SpellEach}
+use Rattle.std.specs.Orderings.{Decides}
+use Rattle.std.proofs.shelf.Lists.{length-map, nil-from-length}
+use Rattle.script.specs.Commands.{Begins}
 
 abbrev pub Word : Type 0
 Word = RefT (List ℕ)
 
-pub one-word : (xs : List Word) (d : Word) (a : List ℕ) → length xs ≡ 1 → now (getD xs 0 d) ≡ a → map now xs ≡ a ∷ []
-one-word [] d a l e = absurd (omega arith)
-one-word (x ∷ []) d a l e = ap (λ (v : List ℕ). v ∷ []) e
-one-word (x ∷ y ∷ ys) d a l e = absurd (omega arith)
+-- a word for places past the end
+abbrev pub nothing : Word
+nothing = record { ptr = (0, 0); name = 0; now = [] }
 
-pub two-words : (xs : List Word) (d : Word) (a b : List ℕ) → length xs ≡ 2 → now (getD xs 0 d) ≡ a → now (getD xs 1 d) ≡ b → map now xs ≡ a ∷ b ∷ []
-two-words [] d a b l e f = absurd (omega arith)
-two-words (x ∷ []) d a b l e f = absurd (omega arith)
-two-words (x ∷ y ∷ []) d a b l e f = cc
-two-words (x ∷ y ∷ z ∷ zs) d a b l e f = absurd (omega arith)
+headOf : List (List ℕ) → List ℕ
+headOf [] = []
+headOf (v ∷ vs) = v
 
-spell-one : (xs : List Word) (d : Word) (m : ℕ) → length xs ≡ 1 → Spells (now (getD xs 0 d)) m → SpellEach (map now xs) (m ∷ [])
-spell-one [] d m l s = absurd (omega arith)
-spell-one (x ∷ []) d m l s = (s, tt)
-spell-one (x ∷ y ∷ ys) d m l s = absurd (omega arith)
+-- what the words are, if they begin so
+pub begun : (xs : List Word) (d : Word) (k : List ℕ) (n : ℕ) → Begins k n (map now xs) → (length xs ≡ suc n) × (now (getD xs 0 d) ≡ k)
+unfolding headOf
+begun [] d k n (vs, e, l) = absurd (omega (arith, ap length e))
+begun (x ∷ xs) d k n (vs, e, l) = (omega (arith, ap length e, l, length-map (x ∷ xs) now), ap headOf e)
 
-spell-two : (xs : List Word) (d : Word) (m n : ℕ) → length xs ≡ 2 → Spells (now (getD xs 0 d)) m → Spells (now (getD xs 1 d)) n → SpellEach (map now xs) (m ∷ n ∷ [])
-spell-two [] d m n l s t = absurd (omega arith)
-spell-two (x ∷ xs) d m n l s t = (s, spell-one xs d n (omega arith) t)
+pub begins-no : (xs : List Word) (d : Word) (k : List ℕ) (n : ℕ) → (length xs ≡ suc n → ⊥) → Decides false (Begins k n (map now xs))
+begins-no xs d k n f = (λ e. absurd (let z : _≡_ {A = ℕ} 0 1 = cc in omega arith), λ b. absurd (f (begun xs d k n b .0)))
 
-spell-three : (xs : List Word) (d : Word) (m n k : ℕ) → length xs ≡ 3 → Spells (now (getD xs 0 d)) m → Spells (now (getD xs 1 d)) n → Spells (now (getD xs 2 d)) k → SpellEach (map now xs) (m ∷ n ∷ k ∷ [])
-spell-three [] d m n k l s t u = absurd (omega arith)
-spell-three (x ∷ xs) d m n k l s t u = (s, spell-two xs d n k (omega arith) t u)
+pub begins-by : (xs : List Word) (d : Word) (k : List ℕ) (n : ℕ) (r : Bool) → length xs ≡ suc n → Decides r (now (getD xs 0 d) ≡ k) → Decides r (Begins k n (map now xs))
+begins-by [] d k n r l t = absurd (omega arith)
+begins-by (x ∷ xs) d k n r l t = (
+  λ e. (map now xs, ap (λ (v : List ℕ). v ∷ map now xs) (t .0 e), omega (arith, length-map xs now)),
+  λ b. t .1 (begun (x ∷ xs) d k n b .1),
+)
 
--- a word and then numbers
-abbrev Follow : List Word → List ℕ → List ℕ → Type 0
-Follow xs a ns = (vs : List (List ℕ)) × (map now xs ≡ a ∷ vs) × SpellEach vs ns
+two : (xs : List Word) (d : Word) (k : List ℕ) → length xs ≡ 2 → now (getD xs 0 d) ≡ k → map now xs ≡ k ∷ now (getD xs 1 d) ∷ []
+two [] d k l e = absurd (omega arith)
+two (x ∷ []) d k l e = absurd (omega arith)
+two (x ∷ y ∷ []) d k l e = ap (λ (v : List ℕ). v ∷ now y ∷ []) e
+two (x ∷ y ∷ z ∷ zs) d k l e = absurd (omega arith)
 
-follow : (x : Word) (xs : List Word) (a ns : List ℕ) → now x ≡ a → SpellEach (map now xs) ns → Follow (x ∷ xs) a ns
-follow x xs a ns e s = (map now xs, ap (λ (v : List ℕ). v ∷ map now xs) e, s)
+pub two-words : (xs : List Word) (d : Word) (k : List ℕ) → Begins k 1 (map now xs) → map now xs ≡ k ∷ now (getD xs 1 d) ∷ []
+two-words xs d k b = let p = begun xs d k 1 b in two xs d k (p .0) (p .1)
 
-pub one-number : (xs : List Word) (d : Word) (a : List ℕ) (m : ℕ) → length xs ≡ 2 → now (getD xs 0 d) ≡ a → Spells (now (getD xs 1 d)) m → Follow xs a (m ∷ [])
-one-number [] d a m l e s = absurd (omega arith)
-one-number (x ∷ xs) d a m l e s = follow x xs a (m ∷ []) e (spell-one xs d m (omega arith) s)
+three : (xs : List Word) (d : Word) (k : List ℕ) → length xs ≡ 3 → now (getD xs 0 d) ≡ k → map now xs ≡ k ∷ now (getD xs 1 d) ∷ now (getD xs 2 d) ∷ []
+three [] d k l e = absurd (omega arith)
+three (x ∷ xs) d k l e = ap (λ (v : List ℕ). v ∷ map now xs) e ∙ ap (λ (vs : List (List ℕ)). k ∷ vs) (two xs d (now (getD xs 0 d)) (omega arith) refl)
 
-pub two-numbers : (xs : List Word) (d : Word) (a : List ℕ) (m n : ℕ) → length xs ≡ 3 → now (getD xs 0 d) ≡ a → Spells (now (getD xs 1 d)) m → Spells (now (getD xs 2 d)) n → Follow xs a (m ∷ n ∷ [])
-two-numbers [] d a m n l e s t = absurd (omega arith)
-two-numbers (x ∷ xs) d a m n l e s t = follow x xs a (m ∷ n ∷ []) e (spell-two xs d m n (omega arith) s t)
+pub three-words : (xs : List Word) (d : Word) (k : List ℕ) → Begins k 2 (map now xs) → map now xs ≡ k ∷ now (getD xs 1 d) ∷ now (getD xs 2 d) ∷ []
+three-words xs d k b = let p = begun xs d k 2 b in three xs d k (p .0) (p .1)
 
-pub three-numbers : (xs : List Word) (d : Word) (a : List ℕ) (m n k : ℕ) → length xs ≡ 4 → now (getD xs 0 d) ≡ a → Spells (now (getD xs 1 d)) m → Spells (now (getD xs 2 d)) n → Spells (now (getD xs 3 d)) k → Follow xs a (m ∷ n ∷ k ∷ [])
-three-numbers [] d a m n k l e s t u = absurd (omega arith)
-three-numbers (x ∷ xs) d a m n k l e s t u = follow x xs a (m ∷ n ∷ k ∷ []) e (spell-three xs d m n k (omega arith) s t u)
+four : (xs : List Word) (d : Word) (k : List ℕ) → length xs ≡ 4 → now (getD xs 0 d) ≡ k → map now xs ≡ k ∷ now (getD xs 1 d) ∷ now (getD xs 2 d) ∷ now (getD xs 3 d) ∷ []
+four [] d k l e = absurd (omega arith)
+four (x ∷ xs) d k l e = ap (λ (v : List ℕ). v ∷ map now xs) e ∙ ap (λ (vs : List (List ℕ)). k ∷ vs) (three xs d (now (getD xs 0 d)) (omega arith) refl)
+
+pub four-words : (xs : List Word) (d : Word) (k : List ℕ) → Begins k 3 (map now xs) → map now xs ≡ k ∷ now (getD xs 1 d) ∷ now (getD xs 2 d) ∷ now (getD xs 3 d) ∷ []
+four-words xs d k b = let p = begun xs d k 3 b in four xs d k (p .0) (p .1)
+
+-- a keyword alone
+pub alone : (ws : List (List ℕ)) (k : List ℕ) (r : Bool) → Decides r (Begins k 0 ws) → Decides r (ws ≡ k ∷ [])
+alone ws k r t = (
+  λ e. let b = t .0 e in b .1 ∙ ap (λ (vs : List (List ℕ)). k ∷ vs) (nil-from-length (b .0) (b .2)),
+  λ e. t .1 ([], e, refl),
+)

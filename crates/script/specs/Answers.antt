@@ -7,6 +7,7 @@ use mathlib.Core.Path.{_≡_}
 use Rattle.std.specs.declared.result.Result.{Result}
 use Rattle.std.specs.declared.result.Result.the-variants.{Ok, Err}
 use Rattle.calendar.specs.Refusals.{numberOf}
+use Rattle.script.specs.Parts.{countOf}
 use Rattle.script.specs.declared.commands.Command.{Command}
 use Rattle.script.specs.declared.commands.Command.the-variants as command
 use Rattle.script.specs.declared.parts.Parts.{Parts}
@@ -15,19 +16,24 @@ use Rattle.script.specs.declared.replies.Reply.the-variants.{Done, Place, Stam
 use Rattle.script.specs.declared.stops.Stop.{Stop}
 use Rattle.script.specs.declared.stops.Stop.the-variants.{Refused, Unread}
 
--- no answer, since nothing has what was asked for: refused by number 11, or misread
-abbrev pub Fails : Stop → Type 0 → Type 0
-Fails (Refused e) None = (numberOf e ≡ 11) × None
-Fails (Unread m) None = None
+-- refused by number 11, since nothing has what was asked for
+abbrev pub Refuses : Stop → Type 0 → Type 0
+Refuses (Refused e) Nothing = (numberOf e ≡ 11) × Nothing
+Refuses (Unread m) Nothing = ⊥
 
--- over a calendar's places, its last place, its texts, and what parts name in it
-module _ {C : Type 0} (place : C → ℕ) (last : ℕ) (text : ℕ → List ℕ) (names : Parts → ℕ → Type 0) where
-  abbrev None : (ℕ → Type 0) → Type 0
-  None P = (n : ℕ) → n ≤ last → P n → ⊥
+-- the same of parts, unless there are more or fewer of them than the calendar takes: then the line is misread
+abbrev pub RefusesParts : Stop → ℕ → ℕ → Type 0 → Type 0
+RefusesParts (Refused e) count taken Nothing = (count ≡ taken) × (numberOf e ≡ 11) × Nothing
+RefusesParts (Unread m) count taken Nothing = count ≡ taken → ⊥
+
+-- over a calendar's places, last place and texts, how many numbers it takes, and what they name
+module _ {C : Type 0} (place : C → ℕ) (last : ℕ) (text : ℕ → List ℕ) (taken : ℕ) (names : Parts → ℕ → Type 0) where
+  abbrev NoPlace : (ℕ → Type 0) → Type 0
+  NoPlace P = (n : ℕ) → n ≤ last → P n → ⊥
 
   abbrev pub Answered : Command → Result (Reply C) Stop → Type 0
   Answered (command.Choose k) r = r ≡ Ok Done
-  Answered (command.Place t) r = ((n : ℕ) × (r ≡ Ok (Place n)) × (n ≤ last) × (text n ≡ now t)) ⊎ ((e : Stop) × (r ≡ Err e) × Fails e (None (λ n. text n ≡ now t)))
+  Answered (command.Place t) r = ((n : ℕ) × (r ≡ Ok (Place n)) × (n ≤ last) × (text n ≡ now t)) ⊎ ((e : Stop) × (r ≡ Err e) × Refuses e (NoPlace (λ n. text n ≡ now t)))
   Answered (command.Stamp n) r = ((s : C) × (r ≡ Ok (Stamp s)) × (place s ≡ n)) ⊎ ((r ≡ Ok Absent) × (last < n))
-  Answered (command.Named p) r = ((s : C) × (r ≡ Ok (Stamp s)) × names p (place s)) ⊎ ((e : Stop) × (r ≡ Err e) × Fails e (None (names p)))
+  Answered (command.Named p) r = ((s : C) × (r ≡ Ok (Stamp s)) × names p (place s)) ⊎ ((e : Stop) × (r ≡ Err e) × RefusesParts e (countOf p) taken (NoPlace (names p)))
   Answered command.Help r = r ≡ Ok Commands

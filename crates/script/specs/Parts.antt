@@ -1,16 +1,16 @@
--- The numbers by which a script names a stamp, and what they name in each calendar.
+-- What the numbers that a script gives name in each calendar.
 use Prim.Native.Nat.{ℕ}
-use mathlib.Core.List.{List, [], _∷_}
 use mathlib.Core.Path.{_≡_}
 use Rattle.gregorian.specs.Dates.{date, dateAt}
 use Rattle.gregorian.specs.Weeks.{week, weekAt}
 use Rattle.script.specs.declared.parts.Parts.{Parts}
 use Rattle.script.specs.declared.parts.Parts.the-variants.{One, Two, Three}
 
-abbrev pub partList : Parts → List ℕ
-partList (One a) = a ∷ []
-partList (Two a b) = a ∷ b ∷ []
-partList (Three a b c) = a ∷ b ∷ c ∷ []
+-- how many numbers there are
+abbrev pub countOf : Parts → ℕ
+countOf (One a) = 1
+countOf (Two a b) = 2
+countOf (Three a b c) = 3
 
 -- an hour is named by its count
 abbrev pub namesHour : Parts → ℕ → Type 0

@@ -42,22 +42,22 @@ chosenAfter o (Stamp n) = o
 chosenAfter o (Named p) = o
 chosenAfter o Help = o
 
--- the bytes show an answer to the command, over a calendar's places, last place, texts and names
-abbrev pub ShowsAnswer : {C : Type 0} → (C → ℕ) → ℕ → (ℕ → List ℕ) → (Parts → ℕ → Type 0) → Command → List ℕ → Type 0
-ShowsAnswer {C} place last text names c bytes = (r : Result (Reply C) Stop) × Answered place last text names c r × Shown place text r bytes
+-- the bytes show an answer to the command, over a calendar's places, last place, texts and parts
+abbrev pub ShowsAnswer : {C : Type 0} → (C → ℕ) → ℕ → (ℕ → List ℕ) → ℕ → (Parts → ℕ → Type 0) → Command → List ℕ → Type 0
+ShowsAnswer {C} place last text taken names c bytes = (r : Result (Reply C) Stop) × Answered place last text taken names c r × Shown place text r bytes
 
 -- the same over each calendar
 abbrev pub RepliedOn : Kind → Command → List ℕ → Type 0
-RepliedOn Hours c bytes = ShowsAnswer (λ (h : Hour). h .count) lastHour hourText namesHour c bytes
-RepliedOn Days c bytes = ShowsAnswer (λ (d : Day). d .number) lastDay (λ n. dateText (dateAt n)) namesDay c bytes
-RepliedOn Weeks c bytes = ShowsAnswer (λ (w : Week). w .number) lastWeek (λ n. weekText (weekAt n)) namesWeek c bytes
+RepliedOn Hours c bytes = ShowsAnswer (λ (h : Hour). h .count) lastHour hourText 1 namesHour c bytes
+RepliedOn Days c bytes = ShowsAnswer (λ (d : Day). d .number) lastDay (λ n. dateText (dateAt n)) 3 namesDay c bytes
+RepliedOn Weeks c bytes = ShowsAnswer (λ (w : Week). w .number) lastWeek (λ n. weekText (weekAt n)) 2 namesWeek c bytes
 
 abbrev pub Replied : Option Kind → Command → List ℕ → Type 0
 Replied None c bytes = ShownMisread bytes
 Replied (Some k) c bytes = RepliedOn k c bytes
 
--- a line before which the one calendar was chosen, and after which the other is: either it is no command, and nothing changes, or its words spell one
+-- a line before which the one calendar was chosen, and after which the other is: either its words spell no command, and nothing changes, or they spell one
 abbrev pub Turn : Option Kind → List ℕ → Option Kind → List ℕ → Type 0
 Turn before line after bytes =
     (ws : List (List ℕ)) × Words line ws
-    × (((after ≡ before) × ShownMisread bytes) ⊎ ((c : Command) × Spelled c ws × (after ≡ chosenAfter before c) × Replied after c bytes))
+    × ((((c : Command) → Spelled c ws → ⊥) × (after ≡ before) × ShownMisread bytes) ⊎ ((c : Command) × Spelled c ws × (after ≡ chosenAfter before c) × Replied after c bytes))

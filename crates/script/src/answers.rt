@@ -11,7 +11,7 @@ use crate::stops::StopFromRefusal;
 // The command's answer, on the calendar `C`. Choosing a calendar is the session's part, and is done
 // here already. Constant time, but for the reading of a text.
 pub fn answer<C: Parted>(command: Command) -> Result<Reply<C>, Stop>
-    ensures { λ r. ⌜ Answered (C·Calendar .place) (C·Calendar .last) (C·Printable .text) (C·Parted .names) (command .entry) r ⌝ }
+    ensures { λ r. ⌜ Answered (C·Calendar .place) (C·Calendar .last) (C·Printable .text) (C·Parted .taken) (C·Parted .names) (command .entry) r ⌝ }
 {
     match command {
         Command::Choose(_) => Ok(Reply::Done),

@@ -1,10 +1,8 @@
 // Calendars whose stamps a script names by numbers: an hour by one, a week by two, a day by three.
-ghost use Rattle.script.specs.Answers.{Fails};
-ghost use Rattle.script.specs.Parts.{namesDay, namesHour, namesWeek};
+ghost use Rattle.script.specs.Answers.{RefusesParts};
+ghost use Rattle.script.specs.Parts.{countOf, namesDay, namesHour, namesWeek};
 ghost use Rattle.script.specs.declared.parts.Parts.{Parts};
-ghost use Rattle.script.specs.declared.parts.Parts.the-variants.{One, Two, Three};
 ghost use Rattle.std.specs.Results.{Cases as ByOk};
-ghost use lib.Dec.{eqb};
 ghost use mathlib.Core.Path.{_≡_};
 ghost use Prim.Native.Nat.{ℕ, _≤_};
 use crate::parts::Parts;
@@ -25,16 +23,21 @@ use gregorian::WeekCalendar;
 use gregorian::WeekPrintable;
 
 pub trait Parted: Printable {
+    // How many numbers name a stamp.
+    ghost taken: { ℕ };
+
     // The parts name the stamp at the place.
     ghost names: { Parts → ℕ → Type 0 };
 
     // The stamp that the parts name: 11 where they name none, and misread where there are more or
     // fewer of them than the calendar takes.
     fn named(parts: Parts) -> Result<Self, Stop>
-        ensures { λ r. ⌜ ByOk r (λ s. names parts (Self·Calendar .place s)) (λ e. Fails e ((n : ℕ) → n ≤ Self·Calendar .last → names parts n → ⊥)) ⌝ };
+        ensures { λ r. ⌜ ByOk r (λ s. names parts (Self·Calendar .place s)) (λ e. RefusesParts e (countOf parts) taken ((n : ℕ) → n ≤ Self·Calendar .last → names parts n → ⊥)) ⌝ };
 }
 
 pub impl Parted for Hour as HourParted {
+    ghost taken = { 1 };
+
     ghost names = { namesHour };
 
     fn named(parts: Parts) -> Result<Hour, Stop> {
@@ -46,6 +49,8 @@ pub impl Parted for Hour as HourParted {
 }
 
 pub impl Parted for Day as DayParted {
+    ghost taken = { 3 };
+
     ghost names = { namesDay };
 
     fn named(parts: Parts) -> Result<Day, Stop> {
@@ -57,6 +62,8 @@ pub impl Parted for Day as DayParted {
 }
 
 pub impl Parted for Week as WeekParted {
+    ghost taken = { 2 };
+
     ghost names = { namesWeek };
 
     fn named(parts: Parts) -> Result<Week, Stop> {

@@ -57,7 +57,10 @@ fn told<C: Printable>(heap: Global, reply: Reply<C>) -> Result<String, AllocErro
 }
 
 // What a transcript shows of an answer. Takes a step for each byte that it shows.
-pub fn shown<C: Printable>(heap: Global, answer: Result<Reply<C>, Stop>) -> Result<String, AllocError>
+pub fn shown<C: Printable>(
+    heap: Global,
+    answer: Result<Reply<C>, Stop>,
+) -> Result<String, AllocError>
     ensures { λ r. ⌜ made r (λ t. Shown (C·Calendar .place) (C·Printable .text) answer (string-bytes t)) ⌝ }
 {
     match answer {

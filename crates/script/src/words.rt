@@ -2,9 +2,9 @@
 ghost use Rattle.script.specs.Words.{First, Words, space};
 ghost use Rattle.std.specs.Of.Vec.{vec-items};
 ghost use Rattle.std.specs.Vec.{made};
+ghost use denote.Ref.{now as seen};
 ghost use lib.Dec.{eqb};
 ghost use lib.ListN.{length, getD};
-ghost use denote.Ref.{now as seen};
 ghost use mathlib.Core.Bool.{not};
 ghost use mathlib.Core.List.{map};
 ghost use mathlib.Core.Path.{_≡_};

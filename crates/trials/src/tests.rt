@@ -1,6 +1,8 @@
-// What the calendars answer on examples whose answers are known from elsewhere.
+// What the calendars answer on examples whose answers are known from elsewhere, and what a script is
+// answered with.
 mod dates;
 mod orders;
+mod sessions;
 mod texts;
 mod weeks;
 

@@ -24,9 +24,12 @@ pub loop-word-less : need.loop-word-less
 loop-word-less c = shorter _ _ _ (c .first-word .ensures) (some c)
 
 pub loop-word-again : need.loop-word-again
-loop-word-again c = (search needs, λ ws h.
-    let e : map seen (vec-items (c .push .last .self)) ++ ws ≡ map seen (vec-items (c .loop-word .found)) ++ (c .first-word .result .0 .now ∷ ws) =
-    ap (λ (xs : List (List ℕ)). xs ++ ws) (ap (map seen) (c .in-Continue-push .ensures tt .items) ∙ map-append seen (vec-items (c .loop-word .found)) (c .first-word .result .0 ∷ []))
-    ∙ append-assoc (map seen (vec-items (c .loop-word .found))) (c .first-word .result .0 .now ∷ []) ws in
-    subst (Words (c .args .line .now)) (sym e)
-    (c .loop-word .inv .1 (c .first-word .result .0 .now ∷ ws) (some c, (c .first-word .result .1 .now, c .first-word .ensures, h))))
+loop-word-again c = (
+  search needs,
+  λ ws h.
+      let e : map seen (vec-items (c .push .last .self)) ++ ws ≡ map seen (vec-items (c .loop-word .found)) ++ (c .first-word .result .0 .now ∷ ws) =
+      ap (λ (xs : List (List ℕ)). xs ++ ws) (ap (map seen) (c .in-Continue-push .ensures tt .items) ∙ map-append seen (vec-items (c .loop-word .found)) (c .first-word .result .0 ∷ []))
+      ∙ append-assoc (map seen (vec-items (c .loop-word .found))) (c .first-word .result .0 .now ∷ []) ws in
+      subst (Words (c .args .line .now)) (sym e)
+      (c .loop-word .inv .1 (c .first-word .result .0 .now ∷ ws) (some c, (c .first-word .result .1 .now, c .first-word .ensures, h))),
+)
