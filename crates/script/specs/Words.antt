@@ -1,7 +1,10 @@
 -- The words of a line: what stands between spaces.
 use Prim.Native.Nat.{ℕ, _<_}
 use lib.ListN.{length, getD}
-use mathlib.Core.List.{List, [], _∷_, _++_}
+use mathlib.Core.List.{List, [], _∷_, _++_, map}
+use denote.Ref.{RefT, now}
+use Rattle.std.specs.declared.vec.Vec.{Vec}
+use Rattle.std.specs.Of.Vec.{vec-items}
 use mathlib.Core.Path.{_≡_}
 use Rattle.std.specs.shelf.Lists.{All}
 
@@ -28,3 +31,7 @@ pub record First (line word rest : List ℕ) : Type 0 where
 abbrev pub Words : List ℕ → List (List ℕ) → Type 0
 Words line [] = Blank line
 Words line (w ∷ ws) = (0 < length w) × ((rest : List ℕ) × First line w rest × Words rest ws)
+
+-- the words that a vector of borrowed words holds
+abbrev pub held : {Z : Type 0} → Vec (RefT (List ℕ)) Z → List (List ℕ)
+held v = map now (vec-items v)

@@ -2,6 +2,7 @@
 // command is answered on the chosen calendar, and the answer is written as text.
 pub mod answers;
 pub mod commands;
+pub mod memory;
 pub mod parted;
 pub mod parts;
 pub mod replies;

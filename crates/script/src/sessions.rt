@@ -9,6 +9,7 @@ ghost use mathlib.Core.Path.{_≡_};
 use crate::answers::answer;
 use crate::commands::Command;
 use crate::commands::Kind;
+use crate::memory::Made;
 use crate::parted::DayParted;
 use crate::parted::HourParted;
 use crate::parted::WeekParted;
@@ -26,7 +27,6 @@ use gregorian::DayPrintable;
 use gregorian::Week;
 use gregorian::WeekCalendar;
 use gregorian::WeekPrintable;
-use std::alloc::AllocError;
 use std::alloc::Global;
 
 #[derive(Drop)]
@@ -35,7 +35,7 @@ pub struct Session {
 }
 
 // The text of what the command answers on the calendar of that kind.
-fn replied(heap: Global, kind: Kind, command: Command) -> Result<String, AllocError>
+fn replied(heap: Global, kind: Kind, command: Command) -> Made<String>
     ensures { λ r. ⌜ made r (λ t. RepliedOn kind (command .entry) (string-bytes t)) ⌝ }
 {
     match kind {
@@ -46,7 +46,7 @@ fn replied(heap: Global, kind: Kind, command: Command) -> Result<String, AllocEr
 }
 
 // The text of what was not understood. The calendar makes no difference to it.
-fn unread(heap: Global, misread: Misread) -> Result<String, AllocError>
+fn unread(heap: Global, misread: Misread) -> Made<String>
     ensures { λ r. ⌜ made r (λ t. ShownMisread (string-bytes t)) ⌝ }
 {
     shown::<Hour>(heap, Err(Stop::Unread(misread)))
@@ -62,7 +62,7 @@ impl Session {
 
     // The reply to a command line: one line of text or more, with no newline at its end. Takes a
     // step for each byte of the line and of the reply.
-    pub fn reply(&mut self, heap: Global, line: &str) -> Result<String, AllocError>
+    pub fn reply(&mut self, heap: Global, line: &str) -> Made<String>
         ensures { λ r. ⌜ made r (λ t. Turn (now (self .entry) .chosen) (now (line .entry)) (now (self .exit) .chosen) (string-bytes t)) ⌝ }
     {
         let words = words(heap, line)?;
@@ -72,7 +72,7 @@ impl Session {
         }
     }
 
-    fn perform(&mut self, heap: Global, command: Command) -> Result<String, AllocError>
+    fn perform(&mut self, heap: Global, command: Command) -> Made<String>
         ensures chosen { λ r. ⌜ now (self .exit) .chosen ≡ chosenAfter (now (self .entry) .chosen) (command .entry) ⌝ }
         ensures replied { λ r. ⌜ made r (λ t. Replied (now (self .exit) .chosen) (command .entry) (string-bytes t)) ⌝ }
     {

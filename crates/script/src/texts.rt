@@ -6,17 +6,17 @@ ghost use Rattle.std.specs.Written.{decimal};
 ghost use lib.Chars.{codes};
 ghost use mathlib.Core.List.{_++_};
 ghost use mathlib.Core.Path.{_≡_};
+use crate::memory::Made;
 use crate::replies::Reply;
 use crate::sentences::COMMANDS;
 use crate::sentences::of_misread;
 use crate::sentences::of_refusal;
 use crate::stops::Stop;
 use calendar::Printable;
-use std::alloc::AllocError;
 use std::alloc::Global;
 
 // The text of a stamp. Takes a step for each byte.
-pub fn text<C: Printable>(heap: Global, stamp: C) -> Result<String, AllocError>
+pub fn text<C: Printable>(heap: Global, stamp: C) -> Made<String>
     ensures { λ r. ⌜ made r (λ t. string-bytes t ≡ C·Printable .text (C·Calendar .place stamp)) ⌝ }
 {
     let mut out = String::new(heap);
@@ -29,19 +29,19 @@ pub fn text<C: Printable>(heap: Global, stamp: C) -> Result<String, AllocError>
     Ok(out)
 }
 
-fn refused(heap: Global, number: u32, why: &str) -> Result<String, AllocError>
+fn refused(heap: Global, number: u32, why: &str) -> Made<String>
     ensures { λ r. ⌜ made r (λ t. string-bytes t ≡ codes "refused " ++ (decimal number ++ (codes ": " ++ now (why .entry)))) ⌝ }
 {
     format!(heap, "refused {number}: {why}")
 }
 
-fn listed(heap: Global, lines: &str) -> Result<String, AllocError>
+fn listed(heap: Global, lines: &str) -> Made<String>
     ensures { λ r. ⌜ made r (λ t. Listing (string-bytes t)) ⌝ }
 {
     format!(heap, "{lines}ok")
 }
 
-fn told<C: Printable>(heap: Global, reply: Reply<C>) -> Result<String, AllocError>
+fn told<C: Printable>(heap: Global, reply: Reply<C>) -> Made<String>
     ensures { λ r. ⌜ made r (λ t. Told (C·Calendar .place) (C·Printable .text) reply (string-bytes t)) ⌝ }
 {
     match reply {
@@ -57,10 +57,7 @@ fn told<C: Printable>(heap: Global, reply: Reply<C>) -> Result<String, AllocErro
 }
 
 // What a transcript shows of an answer. Takes a step for each byte that it shows.
-pub fn shown<C: Printable>(
-    heap: Global,
-    answer: Result<Reply<C>, Stop>,
-) -> Result<String, AllocError>
+pub fn shown<C: Printable>(heap: Global, answer: Result<Reply<C>, Stop>) -> Made<String>
     ensures { λ r. ⌜ made r (λ t. Shown (C·Calendar .place) (C·Printable .text) answer (string-bytes t)) ⌝ }
 {
     match answer {

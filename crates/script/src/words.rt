@@ -1,15 +1,12 @@
 // The words of a line: what stands between spaces.
-ghost use Rattle.script.specs.Words.{First, Words, space};
-ghost use Rattle.std.specs.Of.Vec.{vec-items};
+ghost use Rattle.script.specs.Words.{First, Words, space, held};
 ghost use Rattle.std.specs.Vec.{made};
-ghost use denote.Ref.{now as seen};
 ghost use lib.Dec.{eqb};
 ghost use lib.ListN.{length, getD};
 ghost use mathlib.Core.Bool.{not};
-ghost use mathlib.Core.List.{map};
 ghost use mathlib.Core.Path.{_≡_};
 ghost use Prim.Native.Nat.{ℕ, _<_, _≤_};
-use std::alloc::AllocError;
+use crate::memory::Made;
 use std::alloc::Global;
 
 // How many bytes at the front are spaces, or how many are not.
@@ -39,8 +36,8 @@ pub fn first_word(line: &str) -> (&str, &str)
 }
 
 // The words of a line, in order. Takes a step for each byte.
-pub fn words<'a>(heap: Global, line: &'a str) -> Result<Vec<&'a str>, AllocError>
-    ensures { λ r. ⌜ made r (λ v. Words (now (line .entry)) (map seen (vec-items v))) ⌝ }
+pub fn words<'a>(heap: Global, line: &'a str) -> Made<Vec<&'a str>>
+    ensures { λ r. ⌜ made r (λ v. Words (now (line .entry)) (held v)) ⌝ }
 {
     let mut found = Vec::new(heap);
     let mut rest = line;
