@@ -8,9 +8,9 @@ use Rattle.std.specs.declared.result.Result.{Result}
 use Rattle.std.specs.declared.result.Result.the-variants.{Ok, Err}
 use Rattle.calendar.specs.Refusals.{numberOf}
 use Rattle.script.specs.Parts.{countOf}
-use Rattle.script.specs.declared.commands.Command.{Command}
-use Rattle.script.specs.declared.commands.Command.the-variants as command
-use Rattle.script.specs.declared.parts.Parts.{Parts}
+use Rattle.language.specs.declared.commands.Command.{Command}
+use Rattle.language.specs.declared.commands.Command.the-variants as command
+use Rattle.language.specs.declared.parts.Parts.{Parts}
 use Rattle.script.specs.declared.replies.Reply.{Reply}
 use Rattle.script.specs.declared.replies.Reply.the-variants.{Done, Place, Stamp, Absent, Commands}
 use Rattle.script.specs.declared.stops.Stop.{Stop}

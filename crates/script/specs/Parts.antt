@@ -3,8 +3,8 @@ use Prim.Native.Nat.{ℕ}
 use mathlib.Core.Path.{_≡_}
 use Rattle.gregorian.specs.Dates.{date, dateAt}
 use Rattle.gregorian.specs.Weeks.{week, weekAt}
-use Rattle.script.specs.declared.parts.Parts.{Parts}
-use Rattle.script.specs.declared.parts.Parts.the-variants.{One, Two, Three}
+use Rattle.language.specs.declared.parts.Parts.{Parts}
+use Rattle.language.specs.declared.parts.Parts.the-variants.{One, Two, Three}
 
 -- how many numbers there are
 abbrev pub countOf : Parts → ℕ

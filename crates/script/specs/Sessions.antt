@@ -14,15 +14,15 @@ use Rattle.gregorian.specs.declared.weeks.Week.{Week}
 use Rattle.gregorian.specs.Dates.{lastDay, dateAt, dateText}
 use Rattle.gregorian.specs.Weeks.{lastWeek, weekAt, weekText}
 use Rattle.script.specs.Answers.{Answered}
-use Rattle.script.specs.Commands.{Spelled}
+use Rattle.language.specs.Commands.{Spelled}
 use Rattle.script.specs.Parts.{namesHour, namesDay, namesWeek}
 use Rattle.script.specs.Texts.{Shown, ShownMisread}
-use Rattle.script.specs.Words.{Blank, Words}
-use Rattle.script.specs.declared.commands.Command.{Command}
-use Rattle.script.specs.declared.commands.Command.the-variants.{Choose, Place, Stamp, Named, Help}
-use Rattle.script.specs.declared.commands.Kind.{Kind}
-use Rattle.script.specs.declared.commands.Kind.the-variants.{Hours, Days, Weeks}
-use Rattle.script.specs.declared.parts.Parts.{Parts}
+use Rattle.language.specs.Words.{Blank, Words}
+use Rattle.language.specs.declared.commands.Command.{Command}
+use Rattle.language.specs.declared.commands.Command.the-variants.{Choose, Place, Stamp, Named, Help}
+use Rattle.language.specs.declared.commands.Kind.{Kind}
+use Rattle.language.specs.declared.commands.Kind.the-variants.{Hours, Days, Weeks}
+use Rattle.language.specs.declared.parts.Parts.{Parts}
 use Rattle.script.specs.declared.replies.Reply.{Reply}
 use Rattle.script.specs.declared.stops.Stop.{Stop}
 

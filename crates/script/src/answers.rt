@@ -2,11 +2,11 @@
 ghost use Rattle.script.specs.Answers.{Answered};
 ghost use mathlib.Core.Path.{_≡_};
 ghost use Prim.Native.Nat.{ℕ};
-use crate::commands::Command;
 use crate::parted::Parted;
 use crate::replies::Reply;
 use crate::stops::Stop;
 use crate::stops::StopFromRefusal;
+use language::commands::Command;
 
 // The command's answer, on the calendar `C`. Choosing a calendar is the session's part, and is done
 // here already. Constant time, but for the reading of a text.

@@ -1,12 +1,10 @@
 // Calendars whose stamps a script names by numbers: an hour by one, a week by two, a day by three.
 ghost use Rattle.script.specs.Answers.{RefusesParts};
 ghost use Rattle.script.specs.Parts.{countOf, namesDay, namesHour, namesWeek};
-ghost use Rattle.script.specs.declared.parts.Parts.{Parts};
+ghost use Rattle.language.specs.declared.parts.Parts.{Parts};
 ghost use Rattle.std.specs.Results.{Cases as ByOk};
 ghost use mathlib.Core.Path.{_≡_};
 ghost use Prim.Native.Nat.{ℕ, _≤_};
-use crate::parts::Parts;
-use crate::stops::Misread;
 use crate::stops::Stop;
 use crate::stops::StopFromMisread;
 use crate::stops::StopFromRefusal;
@@ -21,6 +19,8 @@ use gregorian::DayPrintable;
 use gregorian::Week;
 use gregorian::WeekCalendar;
 use gregorian::WeekPrintable;
+use language::misreads::Misread;
+use language::parts::Parts;
 
 pub trait Parted: Printable {
     // How many numbers name a stamp.

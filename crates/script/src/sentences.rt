@@ -1,7 +1,7 @@
 // The sentences of a transcript: what a refusal means, why a line was not understood, and the list
 // of the commands.
-use crate::stops::Misread;
 use calendar::Refusal;
+use language::misreads::Misread;
 
 // What the refusal means to somebody at the panel.
 pub(crate) fn of_refusal(refusal: Refusal) -> &'static str {

@@ -6,13 +6,13 @@ ghost use Rattle.std.specs.Written.{decimal};
 ghost use lib.Chars.{codes};
 ghost use mathlib.Core.List.{_++_};
 ghost use mathlib.Core.Path.{_≡_};
-use crate::memory::Made;
 use crate::replies::Reply;
 use crate::sentences::COMMANDS;
 use crate::sentences::of_misread;
 use crate::sentences::of_refusal;
 use crate::stops::Stop;
 use calendar::Printable;
+use language::memory::Made;
 use std::alloc::Global;
 
 // The text of a stamp. Takes a step for each byte.
