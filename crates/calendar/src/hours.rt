@@ -14,6 +14,7 @@ const LAST: u32 = 999999;
 
 const WIDTH: usize = 6;
 
+// An hour of a pump or a mixer, by how many hours it has run before. Its place is that count.
 #[derive(Clone, Copy, Debug, PartialEq, Eq)]
 pub struct Hour {
     count: u32,
@@ -21,7 +22,7 @@ pub struct Hour {
 }
 
 impl Hour {
-    // The hour of that count; 11 past the last.
+    // The hour of that count; 11 past the last. Constant time.
     pub fn from_parts(count: u32) -> Result<Hour, Refusal>
         ensures { λ r. ⌜ ByOk r (λ s. s .count ≡ count) (λ e. (numberOf e ≡ 11) × (lastHour < count)) ⌝ }
     {
@@ -31,7 +32,7 @@ impl Hour {
         Ok(Hour { count })
     }
 
-    // The count of the hour.
+    // The count of the hour. Constant time.
     pub fn parts(self) -> u32
         ensures { λ r. ⌜ r ≡ self .count ⌝ }
     {

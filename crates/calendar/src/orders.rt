@@ -6,11 +6,15 @@ ghost use mathlib.Core.Path.{_≡_};
 ghost use Prim.Native.Nat.{ℕ, _<_, _≤_, min};
 use std::cmp::Ordering;
 
+// No calendar's last place is past this one.
+pub const PLACE_LIMIT: u32 = 16777215;
+
 // A stamp means its place: a whole number from 0 to the last, and each of these is the place of a
 // stamp. Two values with one place are the same stamp. A type that can hold more than its
 // calendar has counts the surplus as the last stamp, which is what the law `bounded` asks.
 //
 // A calendar gives its two numbers, `place` and `at_place`; the rest follows from them, once for all.
+// In our own calendars every call takes constant time.
 pub trait Calendar: Copy {
     // The place of a stamp.
     ghost place: { Self → ℕ };
@@ -21,8 +25,10 @@ pub trait Calendar: Copy {
     // The number that marks the calendar's images.
     ghost mark: { ℕ };
 
+    // No stamp lies past the last place.
     law bounded: { (s : Self) → place s ≤ last };
 
+    // No calendar is longer than this.
     law limited: { last ≤ placeLimit };
 
     const MARK: u32;
@@ -53,6 +59,7 @@ pub trait Calendar: Copy {
         }
     }
 
+    // The stamp at place 0: every calendar has one.
     fn first() -> Self
     where
         Self: Sized,
@@ -64,6 +71,7 @@ pub trait Calendar: Copy {
         }
     }
 
+    // The stamp at the last place.
     fn last() -> Self
     where
         Self: Sized,

@@ -21,6 +21,8 @@ const LAST: u32 = 109572;
 
 const WIDTH: usize = 10;
 
+// A day, by how many days lie between it and 1900-01-01: that is its place. 2000-02-29 has place
+// 36,583. A day is a Monday just if 7 divides its place.
 #[derive(Clone, Copy, Debug, PartialEq, Eq)]
 pub struct Day {
     number: u32,

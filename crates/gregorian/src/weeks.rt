@@ -18,6 +18,8 @@ const LAST: u32 = 15652;
 
 const WIDTH: usize = 8;
 
+// A week, by how many weeks lie between it and 1900-W01: that is its place. 2020-W53 has place 6,313.
+// The week at place n has the days at places 7 n to 7 n + 6.
 #[derive(Clone, Copy, Debug, PartialEq, Eq)]
 pub struct Week {
     number: u32,

@@ -1,4 +1,4 @@
--- How an answer is written in a transcript.
+-- How an answer is written in a transcript. A number is written as printing it writes it, which is `decimal` here.
 use Prim.Native.Nat.{ℕ}
 use lib.Chars.{codes}
 use mathlib.Core.List.{List, _++_}
