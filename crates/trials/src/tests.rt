@@ -1,8 +1,9 @@
-// What the calendars answer on examples whose answers are known from elsewhere, and what a script is
+// What the calendars answer on examples whose answers are known from elsewhere, sets of places, and what a script is
 // answered with.
 mod dates;
 mod orders;
 mod sessions;
+mod sets;
 mod texts;
 mod weeks;
 
