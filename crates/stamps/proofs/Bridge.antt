@@ -8,7 +8,8 @@ use native.Mathlib.Omega.{arith}
 use lib.ListN.{length, getD}
 use Rattle.std.proofs.shelf.Tests.{cases-lt}
 use Rattle.std.proofs.shelf.Ways.{tells}
-use Rattle.stamps.specs.Ranges.{Range, member, Before, Listing, OneListing}
+use Rattle.stamps.specs.declared.sets.Range.{Range}
+use Rattle.stamps.specs.Ranges.{range, member, Before, Listing, OneListing}
 use Rattle.stamps.specs.Edges.{ranges, Rises, inside}
 use Rattle.stamps.proofs.EdgeLemmas.{rises-tail, rises-head, inside-under, same-edges}
 
@@ -45,7 +46,7 @@ listing-ranges (x ∷ y ∷ es) r =
 
 pub edges : List Range → List ℕ
 edges [] = []
-edges (r ∷ rs) = r .0 ∷ (r .1 + 1) ∷ edges rs
+edges (r ∷ rs) = r .low ∷ (r .high + 1) ∷ edges rs
 
 pub length-edges : (rs : List Range) → length (edges rs) ≡ 2 * length rs
 unfolding edges
@@ -56,8 +57,8 @@ pub ranges-edges : (rs : List Range) → ranges (edges rs) ≡ rs
 unfolding edges
 ranges-edges [] = refl
 ranges-edges (r ∷ rs) =
-    let h : (r .1 + 1) - 1 ≡ r .1 = omega arith in
-    ap (λ (x : ℕ). (r .0, x) ∷ ranges (edges rs)) h ∙ ap (λ (ss : List Range). r ∷ ss) (ranges-edges rs)
+    let h : (r .high + 1) - 1 ≡ r .high = omega arith in
+    ap (λ (x : ℕ). range (r .low) x ∷ ranges (edges rs)) h ∙ ap (λ (ss : List Range). r ∷ ss) (ranges-edges rs)
 
 -- the edges of a listing rise, from the first on
 edges-above : (rs : List Range) (p : ℕ) → Before p rs → Listing rs → (k : ℕ) → k < length (edges rs) → p < getD (edges rs) k 0
@@ -66,7 +67,7 @@ edges-above [] p b l k m = absurd (omega arith)
 edges-above (r ∷ rs) p b l zero m = b
 edges-above (r ∷ rs) p b l (suc zero) m = omega (arith, b, l .0)
 edges-above (r ∷ rs) p b l (suc (suc k)) m =
-    omega (arith, b, l .0, edges-above rs (r .1 + 1) (l .1) (l .2) k (omega arith))
+    omega (arith, b, l .0, edges-above rs (r .high + 1) (l .1) (l .2) k (omega arith))
 
 pub rises-edges : (rs : List Range) → Listing rs → Rises (edges rs)
 unfolding edges
@@ -74,10 +75,10 @@ rises-edges [] l i j a b = absurd (omega arith)
 rises-edges (r ∷ rs) l zero zero a b = absurd (omega arith)
 rises-edges (r ∷ rs) l zero (suc zero) a b = omega (arith, l .0)
 rises-edges (r ∷ rs) l zero (suc (suc j)) a b =
-    omega (arith, l .0, edges-above rs (r .1 + 1) (l .1) (l .2) j (omega arith))
+    omega (arith, l .0, edges-above rs (r .high + 1) (l .1) (l .2) j (omega arith))
 rises-edges (r ∷ rs) l (suc i) zero a b = absurd (omega arith)
 rises-edges (r ∷ rs) l (suc zero) (suc zero) a b = absurd (omega arith)
-rises-edges (r ∷ rs) l (suc zero) (suc (suc j)) a b = edges-above rs (r .1 + 1) (l .1) (l .2) j (omega arith)
+rises-edges (r ∷ rs) l (suc zero) (suc (suc j)) a b = edges-above rs (r .high + 1) (l .1) (l .2) j (omega arith)
 rises-edges (r ∷ rs) l (suc (suc i)) (suc zero) a b = absurd (omega arith)
 rises-edges (r ∷ rs) l (suc (suc i)) (suc (suc j)) a b = rises-edges rs (l .2) i j (omega arith) (omega arith)
 

@@ -12,7 +12,8 @@ use Rattle.stamps.specs.declared.sets.ReferenceSet.{ReferenceSet}
 use Rattle.calendar.specs.declared.refusals.Refusal.{Refusal}
 use Rattle.stamps.specs.declared.sweep.Op.{Op}
 use Rattle.stamps.specs.declared.sweep.Op.the-variants.{And, Or, Without}
-use Rattle.stamps.specs.Ranges.{Range, member, Listing}
+use Rattle.stamps.specs.declared.sets.Range.{Range}
+use Rattle.stamps.specs.Ranges.{member, Listing}
 use Rattle.stamps.specs.Sets.{listing, has, Exactly}
 use Rattle.stamps.specs.Sweeps.{both}
 use Rattle.stamps.proofs.Bridge.{one-listing}

@@ -13,7 +13,8 @@ use Rattle.std.specs.declared.result.Result.{Result}
 use Rattle.std.specs.declared.result.Result.the-variants.{Ok, Err}
 use Rattle.stamps.specs.declared.sets.ReferenceSet.{ReferenceSet}
 use Rattle.calendar.specs.declared.refusals.Refusal.{Refusal}
-use Rattle.stamps.specs.Ranges.{Range, member}
+use Rattle.stamps.specs.declared.sets.Range.{Range}
+use Rattle.stamps.specs.Ranges.{range, member}
 use Rattle.stamps.specs.Edges.{ranges, odd}
 use Rattle.stamps.specs.Sets.{steps, listing, has, Exactly}
 use Rattle.stamps.specs.Sweeps.{Split}
@@ -27,7 +28,7 @@ length-ranges [] = refl
 length-ranges (x ∷ []) = refl
 length-ranges (x ∷ y ∷ es) = omega (arith, length-ranges es)
 
-ranges-at : (es : List ℕ) (i : ℕ) → i < length (ranges es) → getD (ranges es) i (0, 0) ≡ (getD es (2 * i) 0, getD es (2 * i + 1) 0 - 1)
+ranges-at : (es : List ℕ) (i : ℕ) → i < length (ranges es) → getD (ranges es) i (range 0 0) ≡ range (getD es (2 * i) 0) (getD es (2 * i + 1) 0 - 1)
 ranges-at [] i l = absurd (omega arith)
 ranges-at (x ∷ []) i l = absurd (omega arith)
 ranges-at (x ∷ y ∷ es) zero l = refl
@@ -35,17 +36,20 @@ ranges-at (x ∷ y ∷ es) (suc i) l =
     let a : 2 * suc i ≡ suc (suc (2 * i)) = omega arith in
     let b : 2 * suc i + 1 ≡ suc (suc (2 * i + 1)) = omega arith in
     ranges-at es i (omega arith)
-    ∙ ap (λ (n : ℕ). (getD (x ∷ y ∷ es) n 0, getD es (2 * i + 1) 0 - 1)) (sym a)
-    ∙ ap (λ (n : ℕ). (getD (x ∷ y ∷ es) (2 * suc i) 0, getD (x ∷ y ∷ es) n 0 - 1)) (sym b)
+    ∙ ap (λ (n : ℕ). range (getD (x ∷ y ∷ es) n 0) (getD es (2 * i + 1) 0 - 1)) (sym a)
+    ∙ ap (λ (n : ℕ). range (getD (x ∷ y ∷ es) (2 * suc i) 0) (getD (x ∷ y ∷ es) n 0 - 1)) (sym b)
 
 pub listing-long : (s : ReferenceSet) → length (listing s) ≡ s .used / 2
 listing-long s = length-ranges (steps s) ∙ ap (λ (n : ℕ). n / 2) (steps-long s)
 
+pub same-range : (a b : Range) → a .low ≡ b .low → a .high ≡ b .high → a ≡ b
+same-range a b e f = ap (λ (n : ℕ). range n (a .high)) e ∙ ap (λ (n : ℕ). range (b .low) n) f
+
 -- the range at i, by its edges
 pub record Placed (s : ReferenceSet) (i : ℕ) : Type 0 where
   pub within : 2 * i + 1 < s .used
-  pub low : getD (listing s) i (0, 0) .0 ≡ getD (s .edges) (2 * i) 0
-  pub high : getD (listing s) i (0, 0) .1 ≡ getD (s .edges) (2 * i + 1) 0 - 1
+  pub low : getD (listing s) i (range 0 0) .low ≡ getD (s .edges) (2 * i) 0
+  pub high : getD (listing s) i (range 0 0) .high ≡ getD (s .edges) (2 * i + 1) 0 - 1
   pub rises : getD (s .edges) (2 * i) 0 < getD (s .edges) (2 * i + 1) 0
 
 pub placed : (s : ReferenceSet) (i : ℕ) → i < length (listing s) → Placed s i
@@ -54,8 +58,8 @@ placed s i l =
     let at = ranges-at (steps s) i l in
     record {
       within = w;
-      low = ap (λ (r : Range). r .0) at ∙ steps-at s (2 * i) (omega arith);
-      high = ap (λ (r : Range). r .1) at ∙ ap (λ (n : ℕ). n - 1) (steps-at s (2 * i + 1) w);
+      low = ap (λ (r : Range). r .low) at ∙ steps-at s (2 * i) (omega arith);
+      high = ap (λ (r : Range). r .high) at ∙ ap (λ (n : ℕ). n - 1) (steps-at s (2 * i + 1) w);
       rises = s .rises (2 * i) (2 * i + 1) (omega arith) w;
     }
 

@@ -10,7 +10,8 @@ use Rattle.std.proofs.shelf.Tests.{cases-lt, cases-bool}
 use Rattle.std.proofs.shelf.Lists.{length-push}
 use Rattle.stamps.specs.declared.sets.ReferenceSet.{ReferenceSet}
 use Rattle.stamps.specs.declared.sweep.Op.{Op}
-use Rattle.stamps.specs.Ranges.{Range, Listing, member, HasListing}
+use Rattle.stamps.specs.declared.sets.Range.{Range}
+use Rattle.stamps.specs.Ranges.{Listing, member, HasListing}
 use Rattle.stamps.specs.Edges.{ranges, Rises, inside, odd}
 use Rattle.stamps.specs.Sets.{steps, listing, has}
 use Rattle.stamps.specs.Sweeps.{both, Swept, Least, passed}

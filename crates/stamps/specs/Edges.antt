@@ -4,12 +4,13 @@ use mathlib.Core.Bool.{Bool, true, false, not}
 use Prim.Native.Nat.{ℕ, _-_, _%_, _<_}
 use lib.Dec.{leb, eqb}
 use lib.ListN.{length, getD}
-use Rattle.stamps.specs.Ranges.{Range}
+use Rattle.stamps.specs.Ranges.{range}
+use Rattle.stamps.specs.declared.sets.Range.{Range}
 
 abbrev pub ranges : List ℕ → List Range
 ranges [] = []
 ranges (low ∷ []) = []
-ranges (low ∷ past ∷ es) = (low, past - 1) ∷ ranges es
+ranges (low ∷ past ∷ es) = range low (past - 1) ∷ ranges es
 
 -- edges rise
 abbrev pub Rises : List ℕ → Type 0

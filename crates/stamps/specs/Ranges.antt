@@ -5,29 +5,29 @@ use mathlib.Core.Bool.{Bool, false, _&&_, _||_}
 use Prim.Native.Nat.{ℕ, _+_, _-_, _≤_, _<_}
 use lib.Dec.{leb}
 use lib.ListN.{length}
+use Rattle.stamps.specs.declared.sets.Range.{Range}
 
 -- a set has at most so many ranges
 abbrev pub mostRanges : ℕ
 mostRanges = 16
 
--- a closed range of places: its low and its high
-abbrev pub Range : Type 0
-Range = ℕ × ℕ
+abbrev pub range : ℕ → ℕ → Range
+range low high = record { low = low; high = high }
 
 -- p lies in one of the ranges
 abbrev pub member : List Range → ℕ → Bool
 member [] p = false
-member (r ∷ rs) p = (leb (r .0) p && leb p (r .1)) || member rs p
+member (r ∷ rs) p = (leb (r .low) p && leb p (r .high)) || member rs p
 
 -- the first of the ranges, if any, begins after the place
 abbrev pub Before : ℕ → List Range → Type 0
 Before p [] = Unit {0}
-Before p (r ∷ rs) = p < r .0
+Before p (r ∷ rs) = p < r .low
 
 -- the ranges rise, with at least one place between a high and the next low
 abbrev pub Listing : List Range → Type 0
 Listing [] = Unit {0}
-Listing (r ∷ rs) = (r .0 ≤ r .1) × Before (r .1 + 1) rs × Listing rs
+Listing (r ∷ rs) = (r .low ≤ r .high) × Before (r .high + 1) rs × Listing rs
 
 -- the places at which f is true have a listing
 abbrev pub HasListing : (ℕ → Bool) → Type 0

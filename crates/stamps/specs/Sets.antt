@@ -9,7 +9,8 @@ use Rattle.std.specs.Results.{Cases}
 use Rattle.stamps.specs.declared.sets.ReferenceSet.{ReferenceSet}
 use Rattle.calendar.specs.declared.refusals.Refusal.{Refusal}
 use Rattle.calendar.specs.Refusals.{numberOf}
-use Rattle.stamps.specs.Ranges.{Range, member, mostRanges, HasListing, NeedsMore}
+use Rattle.stamps.specs.declared.sets.Range.{Range}
+use Rattle.stamps.specs.Ranges.{member, mostRanges, HasListing, NeedsMore}
 use Rattle.stamps.specs.Edges.{ranges}
 
 -- the edges in use

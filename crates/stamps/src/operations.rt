@@ -1,5 +1,5 @@
 // Sets of places, what they have, and how they are put together.
-ghost use Rattle.stamps.specs.Ranges.{Listing, OneListing, mostRanges};
+ghost use Rattle.stamps.specs.Ranges.{Listing, OneListing, mostRanges, range};
 ghost use Rattle.stamps.specs.Sets.{listing, has, Exactly};
 ghost use Rattle.calendar.specs.Orders.{placeLimit};
 ghost use Rattle.std.specs.Options.{Cases as BySome};
@@ -59,7 +59,7 @@ impl ReferenceSet {
 
     // The range at `i`, in rising order: absent past the last. Constant time.
     pub fn range_at(&self, i: usize) -> Option<Range>
-        ensures { λ r. ⌜ BySome r (length (listing (now (self .entry))) ≤ i) (λ x. (i < length (listing (now (self .entry)))) × (x .low ≡ getD (listing (now (self .entry))) i (0, 0) .0) × (x .high ≡ getD (listing (now (self .entry))) i (0, 0) .1)) ⌝ }
+        ensures { λ r. ⌜ BySome r (length (listing (now (self .entry))) ≤ i) (λ x. (i < length (listing (now (self .entry)))) × (x ≡ getD (listing (now (self .entry))) i (range 0 0))) ⌝ }
     {
         if i >= self.count() {
             return None;
