@@ -1,3 +1,5 @@
+#![tactic(auto)]
+
 // What each command of the script language answers on a calendar.
 pub mod answers;
 pub mod calendars;

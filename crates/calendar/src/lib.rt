@@ -1,3 +1,5 @@
+#![tactic(auto)]
+
 // Calendars as bounded orders of stamps, how a stamp is written and read, the calendar of running
 // hours, and the closed list of refusals that every crate of the library answers with.
 pub mod decimal;

@@ -1,6 +1,6 @@
 // Why a call was refused: the closed list, in the order of the refusals' numbers.
 ghost use Rattle.calendar.specs.Refusals.{number_of};
-ghost use Rattle.std.specs.Prelude.{◌≡◌, Decides};
+ghost use Rattle.std.specs.Prelude.{◌≡◌, ◌==◌, Decides};
 ghost use Rattle.std.specs.Cmp.Rules.{comparing};
 ghost use Rattle.std.proofs.Common.{rules};
 
@@ -74,11 +74,14 @@ impl Refusal {
 }
 
 impl PartialEq for Refusal {
-    ghost equals = { λ x y r. Decides r (x ≡ y) };
+    ghost eq = { λ x y. number_of x == number_of y };
 
     ghost laws = { Prim.search (comparing, rules) };
 
-    fn eq(&self, other: &Refusal) -> bool {
+    fn eq(&self, other: &Refusal) -> bool
+        ensures numbers { result ≡ (number_of self.now == number_of other.now) }
+        ensures same { Decides result (self.now ≡ other.now) }
+    {
         self.number() == other.number()
     }
 }

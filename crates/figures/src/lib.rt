@@ -1,3 +1,5 @@
+#![tactic(auto)]
+
 // Figures worked by hand, shown of the definitions that the contracts cite.
 ghost use Rattle.figures.specs.Figures.{WorkedFigures};
 

@@ -1,3 +1,5 @@
+#![tactic(auto)]
+
 // The panel's script language as it is read: a line is cut into words, and the words spell a command.
 pub mod commands;
 pub mod memory;

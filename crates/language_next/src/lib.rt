@@ -1,3 +1,5 @@
+#![tactic(auto)]
+
 // The panel's script language as it is read: the words of a line spell a command.
 pub mod calendars;
 pub mod commands;

@@ -1,3 +1,5 @@
+#![tactic(auto)]
+
 // The panel: runs a script, from the file that its argument names or from standard input, and
 // prints the transcript.
 use script::sessions::{Session, is_passed_over};

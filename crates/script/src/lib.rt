@@ -1,3 +1,5 @@
+#![tactic(auto)]
+
 // The panel's script language as it is answered: a command is answered on the chosen calendar, and
 // the answer is written as text.
 pub mod answers;

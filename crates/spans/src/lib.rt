@@ -1,3 +1,5 @@
+#![tactic(auto)]
+
 // Points and intervals by their places: what they come to at a reference place, and the sets of
 // reference places at which their comparisons and relations hold. Plain numbers, no calendar: the
 // crate `ongoing` has the same by stamps.

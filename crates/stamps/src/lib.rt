@@ -1,3 +1,5 @@
+#![tactic(auto)]
+
 // Sets of reference stamps, by their places: at most sixteen ranges, and the operations on them.
 pub mod operations;
 pub mod sets;

@@ -1,3 +1,5 @@
+#![tactic(auto)]
+
 // Answers as the text that a transcript shows.
 mod sentences;
 pub mod texts;

@@ -1,3 +1,5 @@
+#![tactic(auto)]
+
 // Walks over every stamp of each calendar, and prints how many came round by their parts and by
 // their text, with a checksum of all the texts.
 mod parted;

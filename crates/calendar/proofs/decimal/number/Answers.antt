@@ -11,22 +11,22 @@ returns-then-b-lt48 c n fits s =
     (λ d. elim c.then-b-lt48.branch [ then-b-lt48-via-then-b-lt48 w ↦ omega arith | then-b-lt48-via-else-b-lt48+then-b-gt57 w ↦ omega arith ])
     n s.1
 
-pub returns-in-err-checked-mul : goal.returns-in-err-checked-mul
-returns-in-err-checked-mul c =
-    rw c.from-residual.ensures
+pub returns-in_err-checked_mul : goal.returns-in_err-checked_mul
+returns-in_err-checked_mul c =
+    rw c.from_residual.ensures
     (too_large c.args.bytes.now c.loop-b.b-index c.loop-b.n _ c.loop-b-test.true refl (omega arith, omega arith) c.loop-b.invariant
-    (let fails = c.in-err-checked-mul.ensures in omega arith))
+    (let fails : c.loop-b.n * 10 < 2 ^ 32 → ⊥ = c.in_err-checked_mul.ensures in omega arith))
 
-pub returns-in-err-n : goal.returns-in-err-n
-returns-in-err-n c =
-    rw c.from-residual-in-err-n.ensures
+pub returns-in_err-n : goal.returns-in_err-n
+returns-in_err-n c =
+    rw c.from_residual-in_err-n.ensures
     (too_large c.args.bytes.now c.loop-b.b-index c.loop-b.n _ c.loop-b-test.true refl (omega arith, omega arith) c.loop-b.invariant
-    (let fails = c.in-err-n.ensures in omega (arith, c.in-ok-checked-mul.ensures, c.from.ensures)))
+    (let fails : c.in_ok-checked_mul.field-0 + c.from.result < 2 ^ 32 → ⊥ = c.in_err-n.ensures in omega (arith, c.in_ok-checked_mul.ensures, c.from.ensures)))
 
 pub loop-b-preserved : goal.loop-b-preserved
 loop-b-preserved c =
-    let e : c.in-ok-n.n ≡ 10 * c.loop-b.n + (get_or c.args.bytes.now c.loop-b.b-index 0 - 48) =
-    omega (arith, c.in-ok-n.ensures, c.in-ok-checked-mul.ensures, c.from.ensures) in
+    let e : c.in_ok-n.n ≡ 10 * c.loop-b.n + (get_or c.args.bytes.now c.loop-b.b-index 0 - 48) =
+    omega (arith, c.in_ok-n.ensures, c.in_ok-checked_mul.ensures, c.from.ensures) in
     rw e (one_more c.args.bytes.now c.loop-b.b-index c.loop-b.n _ c.loop-b-test.true refl (omega arith, omega arith) c.loop-b.invariant)
 
 pub returns : goal.returns
