@@ -1,6 +1,6 @@
 -- Numbers in decimal: how long they are, what they are made of, and that they tell the number.
 use Rattle.std.proofs.Common.{◌≡◌, ℕ, zero, suc, ◌+◌, ◌-◌, ◌*◌, ◌/◌, ◌%◌, ◌^◌, ◌<◌, ◌≤◌, true, List, [], ◌∷◌, ◌++◌, length, get_or, take, drop, sym, refl, ap, ◌∙◌, subst, add-suc, pow-suc, add-one, arith}
-use Rattle.std.specs.List.{AllByRecursion as All}
+use Rattle.std.specs.List.{AllByRecursion}
 use Rattle.std.proofs.lemmas.List.{take_all, take_more, take-append-le, take-append-drop, drop_more, length_push, same_from_push, get_or_push, get_or_append_left}
 use Rattle.std.proofs.ByRecursion.{All-push, All-get_or, All-weaker}
 use Rattle.std.proofs.lemmas.Bool.Decides.{nat_tests}
@@ -15,7 +15,7 @@ length-decimal (suc k) n =
 abbrev pub Digit : ℕ → Type 0
 Digit b = (48 ≤ b) × (b ≤ 57)
 
-pub all_decimal : (k n : ℕ) → All Digit (decimal k n)
+pub all_decimal : (k n : ℕ) → AllByRecursion Digit (decimal k n)
 all_decimal zero n = tt
 all_decimal (suc k) n = All-push Digit (decimal k (n / 10)) (48 + n % 10) (all_decimal k (n / 10)) (omega arith, omega arith)
 

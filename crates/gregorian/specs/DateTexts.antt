@@ -5,7 +5,7 @@ use Rattle.std.proofs.lemmas.List.{length-drop, get_or-drop, drop-drop, take_all
 use Rattle.calendar.specs.Decimals.{decimal}
 use Rattle.calendar.proofs.Decimals.{one_number, piece}
 use Rattle.gregorian.specs.Years.{leap}
-use Rattle.gregorian.specs.Dates.{Date, date, date_at, date_text}
+use Rattle.gregorian.specs.Dates.{Date, date_at, date_text}
 use Rattle.gregorian.specs.Counting.{month_most}
 use Rattle.gregorian.specs.DatesLemmas.{date_at_lem, date_one, year_to}
 

@@ -5,7 +5,7 @@ use Rattle.std.proofs.lemmas.Bool.{cases_lt, lt-ltb, le-ltb, cond-true, cond-fal
 use Rattle.std.proofs.lemmas.Bool.Decides.{nat_tests}
 use Rattle.gregorian.specs.Totals.{total}
 use Rattle.gregorian.specs.Years.{leap, year_start}
-use Rattle.gregorian.specs.Dates.{Date, date_at}
+use Rattle.gregorian.specs.Dates.{date_at}
 use Rattle.gregorian.specs.Weeks.{WeekDate, week, weeks, next_week, week_at, week_start, Real, place_of}
 use Rattle.gregorian.specs.TotalsLemmas.{total_more, total_up, total_one}
 use Rattle.gregorian.specs.Counting.{year_end, year_formula_lem, year_formula}

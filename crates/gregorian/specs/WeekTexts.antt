@@ -4,7 +4,7 @@ use Rattle.std.proofs.Common.{sym, ap, ◌∙◌, arith}
 use Rattle.std.proofs.lemmas.List.{length-drop, get_or-drop, drop-drop, take_all}
 use Rattle.calendar.specs.Decimals.{decimal}
 use Rattle.calendar.proofs.Decimals.{one_number, piece}
-use Rattle.gregorian.specs.Weeks.{WeekDate, week, weeks, week_at, week_text}
+use Rattle.gregorian.specs.Weeks.{WeekDate, week_at, week_text}
 use Rattle.gregorian.specs.WeekDates.{some_weeks, week_at_lem, week_one, year_to}
 
 pub text_one : (s t : WeekDate) → s.year < 10000 → t.year < 10000 → s.week < 100 → t.week < 100 → week_text s ≡ week_text t → s ≡ t

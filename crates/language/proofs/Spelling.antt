@@ -1,5 +1,5 @@
 -- Words by their places in a line.
-use Rattle.std.proofs.Common.{◌≡◌, ℕ, suc, ◌-◌, ◌<◌, Bool, true, false, List, [], ◌∷◌, map, length, get_or, Decides, sym, refl, ap, ◌∙◌, arith, Bor}
+use Rattle.std.proofs.Common.{◌≡◌, ℕ, suc, Bool, false, List, [], ◌∷◌, map, length, get_or, Decides, refl, ap, ◌∙◌, arith, Bor}
 use Rattle.std.proofs.lemmas.List.{length-map, nil_from_length}
 use Rattle.language.specs.Commands.{Begins}
 

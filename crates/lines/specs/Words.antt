@@ -1,17 +1,17 @@
 -- The words of a line: what stands between spaces.
 use Rattle.std.specs.Prelude.{◌≡◌, ℕ, ◌<◌, List, [], ◌∷◌, ◌++◌, map, length, vec_items, Vec, ◌≢◌, slice_index}
 use Rattle.std.specs.Borrow.{Bor}
-use Rattle.std.specs.List.{AllByRecursion as All}
+use Rattle.std.specs.List.{AllByRecursion}
 
 -- the byte that separates words
 abbrev pub space : ℕ
 space = 32
 
 abbrev pub Blank : List ℕ → Type 0
-Blank bytes = All (λ b. b ≡ space) bytes
+Blank bytes = AllByRecursion (λ b. b ≡ space) bytes
 
 abbrev pub Solid : List ℕ → Type 0
-Solid bytes = All (λ b. b ≢ space) bytes
+Solid bytes = AllByRecursion (λ b. b ≢ space) bytes
 
 -- the line is spaces, the word and the rest; the word ends at a space or with the line, and is empty only with it
 pub record First (line word rest : List ℕ) : Type 0 where

@@ -1,6 +1,6 @@
 -- A word spells a form in one way: where its sign stands says which.
 use Rattle.std.proofs.Common.{◌≡◌, ℕ, ◌<◌, ◌≤◌, true, List, [], ◌∷◌, ◌++◌, length, IsErrAnd, Ok, Err, Result, sym, refl, ap, ◌∙◌, subst, arith, MatchResult}
-use Rattle.std.specs.List.{AllByRecursion as All}
+use Rattle.std.specs.List.{AllByRecursion}
 use Rattle.std.proofs.ByRecursion.{All-weaker, All-append, All-get_or}
 use Rattle.std.proofs.lemmas.List.{nil_from_length}
 use Rattle.calendar.specs.declared.refusals.Refusal.{Refusal}
@@ -42,7 +42,7 @@ module _ {C : Type 0} (place : C → ℕ) (text : ℕ → List ℕ) where
 
   -- no byte is stray
   abbrev Tidy : List ℕ → Type 0
-  Tidy bytes = All (λ b. mark_of b ≡ Stray → ⊥) bytes
+  Tidy bytes = AllByRecursion (λ b. mark_of b ≡ Stray → ⊥) bytes
 
   -- what the bytes before a sign and those after it are to a form
   abbrev pub Parted : List ℕ → List ℕ → Form C → Type 0

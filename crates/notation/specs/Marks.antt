@@ -1,6 +1,6 @@
 -- What bytes are to a point's text.
 use Rattle.std.specs.Prelude.{◌≡◌, ℕ, ◌<◌, cond, ◌&&◌, ◌||◌, List, length, ◌==◌, ◌≢◌, nat_le, slice_index}
-use Rattle.std.specs.List.{AllByRecursion as All}
+use Rattle.std.specs.List.{AllByRecursion}
 use Rattle.notation.specs.declared.marks.Mark.{Mark}
 use Rattle.notation.specs.declared.marks.Mark.TheVariants.{Sign, Digit, Letter, Separator, Stray}
 
@@ -18,7 +18,7 @@ mark_of b =
 
 -- the byte x stands nowhere among the bytes
 abbrev pub Lacks : ℕ → List ℕ → Type 0
-Lacks x bytes = All (λ b. b ≢ x) bytes
+Lacks x bytes = AllByRecursion (λ b. b ≢ x) bytes
 
 -- some byte is stray
 abbrev pub Strays : List ℕ → Type 0

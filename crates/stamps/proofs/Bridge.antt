@@ -1,11 +1,19 @@
 -- Edges against ranges.
-use Rattle.std.proofs.Common.{◌≡◌, ℕ, zero, suc, ◌+◌, ◌-◌, ◌*◌, ◌%◌, ◌<◌, false, ◌⊎◌, List, [], ◌∷◌, length, get_or, sym, refl, ap, ◌∙◌, ⊎_elim, arith}
+use Rattle.std.proofs.Common.{◌≡◌, ℕ, zero, suc, ◌+◌, ◌-◌, ◌*◌, ◌%◌, ◌<◌, Bool, ◌&&◌, ◌||◌, nat_le, false, List, [], ◌∷◌, length, get_or, sym, refl, ap, ◌∙◌, ⊎_elim, arith}
 use Rattle.std.proofs.lemmas.Bool.{cases_lt}
 use Rattle.std.proofs.lemmas.Bool.Decides.{nat_tests}
 use Rattle.stamps.specs.declared.sets.Range.{Range}
 use Rattle.stamps.specs.Ranges.{range, member, Before, Listing, OneListing}
-use Rattle.stamps.specs.Edges.{ranges, Rises, inside}
+use Rattle.stamps.specs.Edges.{ranges, Rises, flip, inside}
 use Rattle.stamps.proofs.EdgeLemmas.{rises_tail, rises_head, inside_under, same_edges}
+
+-- a place is in a range or further on just as it is past an odd number of edges
+one_pair : (x y p : ℕ) (m : Bool) → x < y → (p < y → m ≡ false) → ((nat_le x p && nat_le p (y - 1)) || m) ≡ flip (nat_le x p) (flip (nat_le y p) m)
+one_pair x y p m first under =
+    ⊎_elim
+    (λ l. let u = under l in rw u (grind (arith, nat_tests)))
+    (λ l. grind (arith, nat_tests))
+    (cases_lt p y)
 
 -- what the ranges hold is what the edges hold
 pub member-ranges : (es : List ℕ) (p : ℕ) → Rises es → length es % 2 ≡ 0 → member (ranges es) p ≡ inside es p
@@ -17,10 +25,7 @@ member-ranges (x ∷ y ∷ es) p r even =
     member-ranges es p (rises_tail y es (rises_tail x (y ∷ es) r)) (omega arith) in
     let under : p < y → inside es p ≡ false =
     λ l. inside_under es p (λ k m. omega (arith, rises_head y es (rises_tail x (y ∷ es) r) k m)) in
-    ⊎_elim
-    (λ l. let u = under l in grind (arith, nat_tests))
-    (λ l. grind (arith, nat_tests))
-    (cases_lt p y)
+    one_pair x y p (member (ranges es) p) first (λ l. rest ∙ under l) ∙ ap (λ (m : Bool). flip (nat_le x p) (flip (nat_le y p) m)) rest
 
 -- rising edges list ranges
 pub listing_ranges : (es : List ℕ) → Rises es → Listing (ranges es)

@@ -1,5 +1,5 @@
 -- How many ranges a set has.
-use Rattle.std.proofs.Common.{◌≡◌, ℕ, ◌+◌, ◌<◌, ◌≤◌, true, false, not, ◌&&◌, ◌||◌, List, [], ◌∷◌, length, is_ok, Ok, Err, Result, sym, refl, ap, ◌∙◌, arith}
+use Rattle.std.proofs.Common.{◌≡◌, ℕ, ◌+◌, ◌≤◌, true, not, ◌&&◌, ◌||◌, List, length, is_ok, Ok, Err, Result, sym, refl, ap, ◌∙◌, arith}
 use Rattle.stamps.specs.declared.sets.ReferenceSet.{ReferenceSet}
 use Rattle.calendar.specs.declared.refusals.Refusal.{Refusal}
 use Rattle.stamps.specs.declared.sweep.Op.{Op}

@@ -2,7 +2,8 @@
 ghost use Rattle.stamps.specs.Ranges.{Listing, OneListing, most_ranges, range};
 ghost use Rattle.stamps.specs.Sets.{listing, has, Exactly};
 ghost use Rattle.calendar.specs.Orders.{place_limit};
-ghost use Rattle.std.specs.Prelude.{◌≡◌, ℕ, ◌+◌, ◌<◌, ◌≤◌, min, Bool, false, not, ◌&&◌, ◌||◌, length, Decides, MatchOption, nat_le, slice_index_or};
+ghost use Rattle.std.specs.Prelude.{◌≡◌, ℕ, ◌+◌, ◌<◌, ◌≤◌, min, Bool, false, not, ◌&&◌, ◌||◌, length, Decides, MatchOption, ◌==◌, nat_eq, nat_le, slice_index_or};
+ghost use Rattle.std.specs.Cmp.Lexicographic.{pointwise};
 ghost use Rattle.std.specs.Cmp.Rules.{comparing};
 ghost use Rattle.std.proofs.Common.{rules, arith};
 
@@ -110,11 +111,14 @@ impl ReferenceSet {
 
 // Two sets are equal just if they have the same places.
 impl PartialEq for ReferenceSet {
-    ghost equals = { λ a b r. Decides r ((p : ℕ) → has a p ≡ has b p) };
+    ghost eq = { λ a b. a.used == b.used && pointwise nat_eq a.edges b.edges };
 
     ghost laws = { first_of (Prim.search (comparing, rules), Prim.grind (arith, Self.row.coded.inj)) };
 
-    fn eq(&self, other: &ReferenceSet) -> bool {
+    fn eq(&self, other: &ReferenceSet) -> bool
+        ensures kept { result ≡ (self.now.used == other.now.used && pointwise nat_eq self.now.edges other.now.edges) }
+        ensures places { Decides result ((p : ℕ) → has self.now p ≡ has other.now p) }
+    {
         self.used == other.used && self.edges == other.edges
     }
 }

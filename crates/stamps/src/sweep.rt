@@ -37,9 +37,9 @@ struct Sweep {
 
 // The edge that comes next in either set.
 fn least(a: &ReferenceSet, b: &ReferenceSet, i: usize, j: usize) -> u32
-    requires j_in_bounds { i + j < length (steps a.now) + length (steps b.now) }
-    requires i_in_bounds { i ≤ length (steps a.now) }
-    requires j_in_bounds_2 { j ≤ length (steps b.now) }
+    requires more { i + j < length (steps a.now) + length (steps b.now) }
+    requires first { i ≤ length (steps a.now) }
+    requires second { j ≤ length (steps b.now) }
     ensures { Least (steps a.now) (steps b.now) i j result }
 {
     if i >= a.used {

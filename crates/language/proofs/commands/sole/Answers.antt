@@ -1,4 +1,4 @@
-use Rattle.std.proofs.Common.{refl, arith}
+use Rattle.std.proofs.Common.{arith}
 use Rattle.language.proofs.Spelling.{nothing, begun, two_words}
 use Rattle.language.proofs.commands.sole.Goals as goal
 

@@ -13,20 +13,20 @@ loop-s-init c = record {
   swept = begins c.args.op (steps c.args.a.now) (steps c.args.b.now);
 }
 
-pub returns-in-err-s : goal.returns-in-err-s
-returns-in-err-s c =
-    let p = err_from_is_err_and c.from-residual.result c.from-residual.ensures.1 in
+pub returns-in_err-s : goal.returns-in_err-s
+returns-in_err-s c =
+    let p = err_from_is_err_and c.from_residual.result c.from_residual.ensures.1 in
     rw (p.1, p.2) (
-      c.in-err-s.ensures.0,
+      c.in_err-s.ensures.0,
       has_listing c.args.op c.args.a.now c.args.b.now,
-      needs_more c.args.op c.args.a.now c.args.b.now c.in-err-s.ensures.1,
+      needs_more c.args.op c.args.a.now c.args.b.now c.in_err-s.ensures.1,
     )
 
-pub invariant-of-result : goal.invariant-of-result
-invariant-of-result c =
+pub invariant_of-result : goal.invariant_of-result
+invariant_of-result c =
     let e = over_even c.args.op c.args.a.now c.args.b.now c.loop-s.s c.loop-s.invariant c.loop-s-test.false in
     let r = over_rises c.args.op c.args.a.now c.args.b.now c.loop-s.s c.loop-s.invariant c.loop-s-test.false in
-    (c.loop-s.invariant.long, (c.loop-s.invariant.fits, (e, (r, (c.loop-s.invariant.rest, tt)))))
+    record { long = c.loop-s.invariant.long; fits = c.loop-s.invariant.fits; even = e; rises = r; rest = c.loop-s.invariant.rest }
 
 pub returns : goal.returns
 returns c = over_has c.args.op c.args.a.now c.args.b.now c.loop-s.s c.loop-s.invariant c.loop-s-test.false

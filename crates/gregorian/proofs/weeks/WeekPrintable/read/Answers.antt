@@ -12,20 +12,20 @@ front bs l = simp length-take (omega arith)
 back : (bs : List ℕ) → length bs ≡ 8 → length (take 2 (drop 6 bs)) ≡ 2
 back bs l = simp (length-take, length-drop) (omega arith)
 
-pub returns-in-default : goal.returns-in-default
-returns-in-default c = (
+pub returns-in_default : goal.returns-in_default
+returns-in_default c = (
   refl,
   λ n h e.
       let bs = c.args.bytes.now in
-      part_none 4 (week_at n).year (take 4 bs) (front bs c.if-bytes-ne-WIDTH.false) c.in-default.ensures (omega (arith, (narrow n h).0)) (narrow n h).0 (ap (λ (xs : List ℕ). take 4 xs) e),
+      part_none 4 (week_at n).year (take 4 bs) (front bs c.if-bytes-ne-WIDTH.false) c.in_default.ensures (omega (arith, (narrow n h).0)) (narrow n h).0 (ap (λ (xs : List ℕ). take 4 xs) e),
 )
 
-pub returns-in-default-number : goal.returns-in-default-number
-returns-in-default-number c = (
+pub returns-in_default-number : goal.returns-in_default-number
+returns-in_default-number c = (
   refl,
   λ n h e.
       let bs = c.args.bytes.now in
-      part_none 2 (week_at n).week (take 2 (drop 6 bs)) (back bs c.if-bytes-ne-WIDTH.false) c.in-default-number.ensures (omega (arith, (narrow n h).1)) (narrow n h).1
+      part_none 2 (week_at n).week (take 2 (drop 6 bs)) (back bs c.if-bytes-ne-WIDTH.false) c.in_default-number.ensures (omega (arith, (narrow n h).1)) (narrow n h).1
       (ap (λ (xs : List ℕ). take 2 (drop 6 xs)) e),
 )
 
@@ -37,7 +37,7 @@ returns c =
     let w = part_some 2 c.in-Some-number.week (take 2 (drop 6 bs)) (back bs l) c.in-Some-number.ensures in
     let t = week c.in-Some.year c.in-Some-number.week in
     let x = text_bytes bs t l (omega arith) (omega arith) y.1 w.1 in
-    MatchResult-weaker c.from-parts.result c.from-parts.ensures (λ s e. ap week_text e ∙ x)
+    MatchResult-weaker c.from_parts.result c.from_parts.ensures (λ s e. ap week_text e ∙ x)
     (λ r f. (
       f.0,
       λ k h e.

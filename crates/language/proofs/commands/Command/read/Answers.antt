@@ -5,10 +5,10 @@ use Rattle.language.proofs.commands.Command.read.Goals as goal
 
 -- each command was looked for, and the words spell none of them
 pub returns : goal.returns
-returns c (Choose k) s = c.in-default.ensures k s
-returns c (Place t) s = c.in-default-sole.ensures t.now s
-returns c (Stamp n) s = c.in-default-stamp-place.ensures n s
-returns c (Named (One a)) s = c.in-default-one-part.ensures a s
-returns c (Named (Two a b)) s = c.in-default-two-parts.ensures a b s
-returns c (Named (Three a b d)) s = c.in-default-three-parts.ensures a b d s
-returns c Help s = both_ways _ c.if-asks-help.false (c.asks-help.ensures.1 s)
+returns c (Choose k) s = c.in_default.ensures k s
+returns c (Place t) s = c.in_default-sole.ensures t.now s
+returns c (Stamp n) s = c.in_default-stamp_place.ensures n s
+returns c (Named (One a)) s = c.in_default-one_part.ensures a s
+returns c (Named (Two a b)) s = c.in_default-two_parts.ensures a b s
+returns c (Named (Three a b d)) s = c.in_default-three_parts.ensures a b d s
+returns c Help s = both_ways _ c.if-asks_help.false (c.asks_help.ensures.1 s)

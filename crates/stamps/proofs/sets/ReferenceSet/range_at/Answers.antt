@@ -3,8 +3,8 @@ use Rattle.stamps.specs.Sets.{listing}
 use Rattle.stamps.proofs.Readings.{placed, same_range}
 use Rattle.stamps.proofs.sets.ReferenceSet.range_at.Goals as goal
 
-pub overflow-sub-result : goal.overflow-sub-result
-overflow-sub-result c =
+pub overflow_sub-result : goal.overflow_sub-result
+overflow_sub-result c =
     let h : c.args.i < length (listing c.args.self.now) = omega (arith, c.count.ensures.count) in
     omega (arith, (placed c.args.self.now c.args.i h).rises)
 
