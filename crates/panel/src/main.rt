@@ -32,9 +32,8 @@ fn run_input(rt: &HostRuntime) -> anyhow::Result<()> {
 }
 
 fn main(rt: HostRuntime) -> anyhow::Result<()> {
-    let done = match env::args(&rt)?.nth(1) {
+    match env::args(&rt)?.nth(1) {
         Some(path) => run_file(&rt, path.as_str()),
         None => run_input(&rt),
-    };
-    done
+    }
 }

@@ -12,7 +12,7 @@ same a b e = grind (arith, nat_tests)
 
 pub returns-then-b-spaces : goal.returns-then-b-spaces
 returns-then-b-spaces c =
-    rw (sym c.as-bytes-bytes.ensures.value) (record {
+    rw (sym c.as_bytes-bytes.ensures.value) (record {
       within = omega arith;
       alike = c.loop-i.invariant;
       stops = λ h. other _ _ c.if-b-spaces.true;
@@ -23,7 +23,7 @@ loop-i-preserved c = below_more _ _ c.loop-i.invariant (same _ _ c.if-b-spaces.f
 
 pub returns : goal.returns
 returns c =
-    rw (sym c.as-bytes-bytes.ensures.value) (record {
+    rw (sym c.as_bytes-bytes.ensures.value) (record {
       within = omega arith;
       alike = λ k h. c.loop-i.invariant k (omega arith);
       stops = λ h. absurd (omega arith);

@@ -8,9 +8,9 @@ here g =
     style g.C.Calendar.place g.C.Printable.text g.met.C.Calendar.bounded g.met.C.Printable.wide g.met.C.Printable.whole g.met.C.Printable.printed
     g.met.C.Printable.one_place
 
-pub returns-in-err-read : goal.returns-in-err-read
-returns-in-err-read g c =
-    unanswered g.C.Calendar.place g.C.Calendar.last g.C.Printable.text c.args.word.now c.from-residual.result _ c.from-residual.ensures.1 c.in-err-read.ensures.0 c.in-err-read.ensures.1
+pub returns-in_err-read : goal.returns-in_err-read
+returns-in_err-read g c =
+    unanswered g.C.Calendar.place g.C.Calendar.last g.C.Printable.text c.args.word.now c.from_residual.result _ c.from_residual.ensures.1 c.in_err-read.ensures.0 c.in_err-read.ensures.1
 
 pub returns : goal.returns
-returns g c = answered g.C.Calendar.place g.C.Calendar.last g.C.Printable.text (here g) c.args.word.now c.in-ok-read.field-0 c.in-ok-read.ensures c.point.result c.point.ensures
+returns g c = answered g.C.Calendar.place g.C.Calendar.last g.C.Printable.text (here g) c.args.word.now c.in_ok-read.field-0 c.in_ok-read.ensures c.point.result c.point.ensures

@@ -6,7 +6,7 @@ use Rattle.notation.proofs.Signs.{sign_plus, passed}
 use Rattle.notation.proofs.marks.first_sign.Goals as goal
 
 pub loop-i-preserved : goal.loop-i-preserved
-loop-i-preserved c = All-more (λ b. b ≡ plus → ⊥) c.args.word.now c.loop-i.i 0 c.loop-i-test.true c.loop-i.invariant (passed _ c.mark-of.result c.mark-of.ensures c.in-Digit.is)
+loop-i-preserved c = All-more (λ b. b ≡ plus → ⊥) c.args.word.now c.loop-i.i 0 c.loop-i-test.true c.loop-i.invariant (passed _ c.mark_of.result c.mark_of.ensures c.in-Digit.is)
 
 pub returns-in-Sign : goal.returns-in-Sign
 returns-in-Sign c = (c.loop-i-test.true, sign_plus _ (sym c.in-Sign.ensures), c.loop-i.invariant)

@@ -4,6 +4,6 @@ use Rattle.texts.proofs.writing.push_between.Goals as goal
 
 pub returns : goal.returns
 returns g c =
-    behind c.push-until.result (string_bytes c.args.out.now) (g.C.Printable.text (g.C.Calendar.place c.args.first))
+    behind c.push_until.result (string_bytes c.args.out.now) (g.C.Printable.text (g.C.Calendar.place c.args.first))
     (43 ∷ g.C.Printable.text (g.C.Calendar.place c.args.second))
-    (string_bytes c.push-stamp.new.out) (string_bytes c.push-until.new.out) c.in-ok-push-stamp.ensures c.push-until.ensures
+    (string_bytes c.push_stamp.new.out) (string_bytes c.push_until.new.out) c.in_ok-push_stamp.ensures c.push_until.ensures

@@ -5,7 +5,7 @@ use Rattle.texts.proofs.writing.push_range.Goals as goal
 
 pub returns : goal.returns
 returns g c =
-    behind c.push-to.result (string_bytes c.args.out.now) (text_at g.C.Calendar.last g.C.Printable.text c.args.range.low)
+    behind c.push_to.result (string_bytes c.args.out.now) (text_at g.C.Calendar.last g.C.Printable.text c.args.range.low)
     (codes ".." ++ text_at g.C.Calendar.last g.C.Printable.text c.args.range.high)
-    (string_bytes c.push-stamp.new.out) (string_bytes c.push-to.new.out)
-    (c.in-ok-push-stamp.ensures ∙ ap (λ (n : ℕ). string_bytes c.args.out.now ++ g.C.Printable.text n) c.at-or-last.ensures) c.push-to.ensures
+    (string_bytes c.push_stamp.new.out) (string_bytes c.push_to.new.out)
+    (c.in_ok-push_stamp.ensures ∙ ap (λ (n : ℕ). string_bytes c.args.out.now ++ g.C.Printable.text n) c.at_or_last.ensures) c.push_to.ensures

@@ -9,9 +9,9 @@ use Rattle.texts.proofs.writing.push_ranges.Goals as goal
 
 pub loop-i-preserved : goal.loop-i-preserved
 loop-i-preserved g c =
-    step g.C.Calendar.last g.C.Printable.text (string_bytes c.args.out.now) (string_bytes c.loop-i.out) (string_bytes c.push-item.new.out)
+    step g.C.Calendar.last g.C.Printable.text (string_bytes c.args.out.now) (string_bytes c.loop-i.out) (string_bytes c.push_item.new.out)
     (listing c.args.set.now) c.loop-i.i c.in-Some.range (range 0 0) c.in-Some.ensures.0 c.in-Some.ensures.1 c.loop-i.invariant
-    c.in-ok-push-item.ensures
+    c.in_ok-push_item.ensures
 
 pub returns : goal.returns
 returns g c =

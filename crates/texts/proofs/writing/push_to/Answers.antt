@@ -5,7 +5,7 @@ use Rattle.texts.proofs.writing.push_to.Goals as goal
 
 pub returns : goal.returns
 returns g c =
-    behind c.push-stamp.result (string_bytes c.args.out.now) (codes "..") (text_at g.C.Calendar.last g.C.Printable.text c.args.high)
-    (string_bytes c.push-str.new.self) (string_bytes c.push-stamp.new.out) c.in-ok-push-str.ensures.bytes
-    (subst (λ (n : ℕ). IfOk c.push-stamp.result (λ _. string_bytes c.push-stamp.new.out ≡ string_bytes c.push-str.new.self ++ g.C.Printable.text n))
-    c.at-or-last.ensures c.push-stamp.ensures)
+    behind c.push_stamp.result (string_bytes c.args.out.now) (codes "..") (text_at g.C.Calendar.last g.C.Printable.text c.args.high)
+    (string_bytes c.push_str.new.self) (string_bytes c.push_stamp.new.out) c.in_ok-push_str.ensures.bytes
+    (subst (λ (n : ℕ). IfOk c.push_stamp.result (λ _. string_bytes c.push_stamp.new.out ≡ string_bytes c.push_str.new.self ++ g.C.Printable.text n))
+    c.at_or_last.ensures c.push_stamp.ensures)

@@ -3,6 +3,6 @@ use Rattle.language_next.proofs.calendars.Parts.read.Goals as goal
 
 -- each count of numbers was looked for, and the words give none
 pub returns : goal.returns
-returns c (One a) s = c.in-default.ensures a s
-returns c (Two a b) s = c.in-default-two-numbers.ensures a b s
-returns c (Three a b d) s = c.in-default-three-numbers.ensures a b d s
+returns c (One a) s = c.in_default.ensures a s
+returns c (Two a b) s = c.in_default-two_numbers.ensures a b s
+returns c (Three a b d) s = c.in_default-three_numbers.ensures a b d s

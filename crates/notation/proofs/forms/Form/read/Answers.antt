@@ -19,18 +19,18 @@ here g =
 pub returns-then-eq : goal.returns-then-eq
 returns-then-eq g c = sym ((slice_eq-Decides Decides-eqb _ _ _ c.eq.ensures).0 c.if-eq.true)
 
-pub returns-in-err-at : goal.returns-in-err-at
-returns-in-err-at g c =
-    met _ c.from-residual.result _ c.from-residual.ensures.1 c.in-err-at.ensures.0
-    (none_stray _ _ (here g) c.args.word.now (λ e. false≢true (sym c.if-eq.false ∙ (slice_eq-Decides Decides-eqb _ _ _ c.eq.ensures).1 e)) c.in-err-at.ensures.1)
+pub returns-in_err-at : goal.returns-in_err-at
+returns-in_err-at g c =
+    met _ c.from_residual.result _ c.from_residual.ensures.1 c.in_err-at.ensures.0
+    (none_stray _ _ (here g) c.args.word.now (λ e. false≢true (sym c.if-eq.false ∙ (slice_eq-Decides Decides-eqb _ _ _ c.eq.ensures).1 e)) c.in_err-at.ensures.1)
 
-pub returns-in-err-read : goal.returns-in-err-read
-returns-in-err-read g c =
-    met _ c.from-residual-in-err-read.result _ c.from-residual-in-err-read.ensures.1 c.in-err-read.ensures.0
-    (none_plain _ _ (here g) c.args.word.now (λ e. false≢true (sym c.if-eq.false ∙ (slice_eq-Decides Decides-eqb _ _ _ c.eq.ensures).1 e)) (MatchOption-at_none _ _ c.in-None.is c.in-ok-at.ensures) (λ s. c.in-err-read.ensures.1 _ (g.met.C.Calendar.bounded s)))
+pub returns-in_err-read : goal.returns-in_err-read
+returns-in_err-read g c =
+    met _ c.from_residual-in_err-read.result _ c.from_residual-in_err-read.ensures.1 c.in_err-read.ensures.0
+    (none_plain _ _ (here g) c.args.word.now (λ e. false≢true (sym c.if-eq.false ∙ (slice_eq-Decides Decides-eqb _ _ _ c.eq.ensures).1 e)) (MatchOption-at_none _ _ c.in-None.is c.in_ok-at.ensures) (λ s. c.in_err-read.ensures.1 _ (g.met.C.Calendar.bounded s)))
 
 pub returns-in-Some : goal.returns-in-Some
 returns-in-Some g c =
-    let s = MatchOption-at_some _ _ c.in-Some.at c.in-Some.is c.in-ok-at.ensures in
+    let s = MatchOption-at_some _ _ c.in-Some.at c.in-Some.is c.in_ok-at.ensures in
     subst (λ (w : List ℕ). MatchResult c.around.result (λ f. spelled g.C.Calendar.place g.C.Printable.text f ≡ w) (λ e. (number_of e ≡ 11) × Unspelled g.C.Calendar.place g.C.Printable.text w))
     (rejoined plus c.in-Some.at c.args.word.now s.0 s.1) c.around.ensures
