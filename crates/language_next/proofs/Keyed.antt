@@ -1,5 +1,5 @@
 -- What is read behind a keyword.
-use Rattle.std.proofs.Common.{◌≡◌, ℕ, List, ◌∷◌, Some, None, Option, sym, subst, MatchOption}
+use Rattle.std.proofs.Common.{◌≡◌, ℕ, List, ◌∷◌, Some, None, Option, subst, MatchOption}
 
 tails : (k : List ℕ) (ws us vs : List (List ℕ)) → ws ≡ k ∷ us → ws ≡ k ∷ vs → us ≡ vs
 tails k ws us vs e f = cc

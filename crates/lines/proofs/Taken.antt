@@ -1,5 +1,5 @@
 -- The first of a list of words, and the rest.
-use Rattle.std.proofs.Common.{◌≡◌, ℕ, ◌-◌, ◌<◌, List, [], ◌∷◌, map, length, get_or, take, drop, sym, ap, arith, Bor}
+use Rattle.std.proofs.Common.{◌≡◌, ℕ, ◌-◌, ◌<◌, List, [], ◌∷◌, length, get_or, take, drop, sym, ap, arith, Bor}
 use Rattle.std.proofs.lemmas.List.{take_all, nil_from_length}
 use Rattle.lines.specs.Shapes.{texts}
 

@@ -1,18 +1,29 @@
 // Intervals between points that move.
 ghost use Rattle.ongoing.specs.Intervals.{Relates, Holds};
 ghost use Rattle.stamps.specs.Sets.{listing};
-ghost use Rattle.std.specs.Prelude.{◌≡◌, ◌≤◌, length};
+ghost use Rattle.std.specs.Prelude.{◌≡◌, ◌≤◌, length, ⊤};
 
 use crate::points::Point;
 use calendar::Calendar;
 use spans::{Extent, Period, Relation, relations};
 use stamps::ReferenceSet;
+use std::alloc::AllocError;
 
 // The stamps from the start on and before the end: none where the start is not before the end. A
 // contract that ends at "now" does not cover the reference stamp itself.
 pub struct Interval<C> {
     pub start: Point<C>,
     pub end: Point<C>,
+}
+
+impl<C> Clone for Interval<C> {
+    ghost is_clone = { λ x y. y ≡ x };
+
+    ghost is_infallible = { λ _. ⊤ };
+
+    fn clone(&self) -> Result<Interval<C>, AllocError> {
+        Ok(*self)
+    }
 }
 
 impl<C> Copy for Interval<C> {}

@@ -3,11 +3,12 @@ ghost use Rattle.ongoing.specs.Points.{place_at, starts, stops};
 ghost use Rattle.spans.specs.Stretches.{Where};
 ghost use Rattle.calendar.specs.Refusals.{number_of};
 ghost use Rattle.stamps.specs.Sets.{listing};
-ghost use Rattle.std.specs.Prelude.{◌≡◌, ℕ, ◌<◌, ◌≤◌, min, max, length, MatchResult, nat_eq, nat_le, nat_lt};
+ghost use Rattle.std.specs.Prelude.{◌≡◌, ℕ, ◌<◌, ◌≤◌, min, max, length, MatchResult, nat_eq, nat_le, nat_lt, ⊤};
 
 use calendar::{Calendar, Refusal};
 use spans::{Extent, Span, comparisons};
 use stamps::ReferenceSet;
+use std::alloc::AllocError;
 use std::marker::PhantomData;
 
 // Two stamps of one calendar, the first not after the second: as the reference stamp goes on, the
@@ -19,6 +20,16 @@ use std::marker::PhantomData;
 pub struct Point<C> {
     pub(crate) span: Span,
     pub(crate) calendar: PhantomData<C>,
+}
+
+impl<C> Clone for Point<C> {
+    ghost is_clone = { λ x y. y ≡ x };
+
+    ghost is_infallible = { λ _. ⊤ };
+
+    fn clone(&self) -> Result<Point<C>, AllocError> {
+        Ok(*self)
+    }
 }
 
 impl<C> Copy for Point<C> {}

@@ -1,7 +1,6 @@
-use Rattle.std.proofs.Common.{◌≡◌, ℕ, ◌<◌, ◌≤◌, Bool, true, false, not, eqb, List, length, get_or, sym, arith, below_more}
+use Rattle.std.proofs.Common.{◌≡◌, Bool, true, false, not, sym, arith, below_more}
 use mathlib.Core.Bool.{beq}
 use Rattle.std.proofs.lemmas.Bool.Decides.{nat_tests}
-use Rattle.lines.specs.Words.{space}
 use Rattle.lines.proofs.words.front.Goals as goal
 
 other : (a b : Bool) → not (beq a b) ≡ true → a ≡ not b

@@ -1,8 +1,8 @@
-use Rattle.std.proofs.Common.{◌≡◌, ℕ, ◌≤◌, [], ◌∷◌, length, ⊎_elim, arith}
+use Rattle.std.proofs.Common.{◌≡◌, ℕ, [], ◌∷◌, ⊎_elim, arith}
 use Rattle.std.proofs.lemmas.Bool.{cases_lt}
 use Rattle.std.proofs.lemmas.Bool.Decides.{nat_tests}
 use Rattle.stamps.specs.Ranges.{range}
-use Rattle.stamps.specs.Sets.{has, listing}
+use Rattle.stamps.specs.Sets.{has}
 use Rattle.stamps.proofs.Counts.{counted}
 use Rattle.spans.specs.Stretches.{covers}
 use Rattle.spans.proofs.pieces.listed.Goals as goal

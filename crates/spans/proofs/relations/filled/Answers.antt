@@ -1,6 +1,5 @@
-use Rattle.std.proofs.Common.{leb, arith}
+use Rattle.std.proofs.Common.{arith}
 use Rattle.std.proofs.lemmas.Bool.Decides.{nat_tests}
-use Rattle.spans.specs.Spans.{bound_in}
 use Rattle.spans.proofs.relations.filled.Goals as goal
 
 pub returns : goal.returns

@@ -1,5 +1,5 @@
-use Rattle.std.proofs.Common.{[], ◌∷◌, string_bytes}
-use Rattle.texts.proofs.Bytes.{pushed, behind}
+use Rattle.std.proofs.Common.{◌∷◌, string_bytes}
+use Rattle.texts.proofs.Bytes.{behind}
 use Rattle.texts.proofs.writing.push_between.Goals as goal
 
 pub returns : goal.returns

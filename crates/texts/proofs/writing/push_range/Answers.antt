@@ -1,4 +1,4 @@
-use Rattle.std.proofs.Common.{ℕ, List, ◌++◌, string_bytes, codes, ap, ◌∙◌}
+use Rattle.std.proofs.Common.{ℕ, ◌++◌, string_bytes, codes, ap, ◌∙◌}
 use Rattle.texts.specs.Writing.{text_at}
 use Rattle.texts.proofs.Bytes.{behind}
 use Rattle.texts.proofs.writing.push_range.Goals as goal

@@ -13,7 +13,7 @@ loop-i-preserved g c =
     one_byte (string_bytes c.args.out.now) (g.C.Printable.text (g.C.Calendar.place c.args.stamp)) c.loop-i.i c.in-Some.b c.from.result _
     (string_bytes c.loop-i.out) (string_bytes c.push.new.self) (omega (arith, long g c.args.stamp, c.in-Some.ensures))
     (g.met.C.Printable.printed (g.C.Calendar.place c.args.stamp) (g.met.C.Calendar.bounded c.args.stamp))
-    c.in-Some.ensures.1 c.from.ensures c.in_ok-push.ensures.ascii c.loop-i.invariant c.in_ok-push.ensures.bytes
+    c.in-Some.ensures.1 c.from.ensures c.in_ok-push-in-Some.ensures.ascii c.loop-i.invariant c.in_ok-push-in-Some.ensures.bytes
 
 pub returns : goal.returns
 returns g c =

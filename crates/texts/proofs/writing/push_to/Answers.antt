@@ -1,4 +1,4 @@
-use Rattle.std.proofs.Common.{◌≡◌, ℕ, List, ◌++◌, IfOk, string_bytes, codes, subst}
+use Rattle.std.proofs.Common.{◌≡◌, ℕ, ◌++◌, IfOk, string_bytes, codes, subst}
 use Rattle.texts.specs.Writing.{text_at}
 use Rattle.texts.proofs.Bytes.{behind}
 use Rattle.texts.proofs.writing.push_to.Goals as goal

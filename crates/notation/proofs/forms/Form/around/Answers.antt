@@ -9,28 +9,28 @@ here g =
     style g.C.Calendar.place g.C.Printable.text g.met.C.Calendar.bounded g.met.C.Printable.wide g.met.C.Printable.whole g.met.C.Printable.printed
     g.met.C.Printable.one_place
 
-pub returns-in_err-read : goal.returns-in_err-read
-returns-in_err-read g c =
-    met _ c.from_residual.result _ c.from_residual.ensures.1 c.in_err-read.ensures.0
-    (none_until _ _ (here g) c.args.before.now c.args.after.now c.requires (eqb-true _ 0 (sym c.in-true-default.ensures)) (λ s. c.in_err-read.ensures.1 _ (g.met.C.Calendar.bounded s)))
+pub returns-in_err-read-in-true-default : goal.returns-in_err-read-in-true-default
+returns-in_err-read-in-true-default g c =
+    met _ c.from_residual.result _ c.from_residual.ensures.1 c.in_err-read-in-true-default.ensures.0
+    (none_until _ _ (here g) c.args.before.now c.args.after.now c.requires (eqb-true _ 0 (sym c.in-true-default.ensures)) (λ s. c.in_err-read-in-true-default.ensures.1 _ (g.met.C.Calendar.bounded s)))
 
-pub returns-in_err-read-2 : goal.returns-in_err-read-2
-returns-in_err-read-2 g c =
-    met _ c.from_residual-in_err-read-2.result _ c.from_residual-in_err-read-2.ensures.1 c.in_err-read-2.ensures.0
-    (none_first _ _ (here g) c.args.before.now c.args.after.now c.requires (eqb-false _ 0 (sym c.in-false-true.ensures)) (λ s. c.in_err-read-2.ensures.1 _ (g.met.C.Calendar.bounded s)))
+pub returns-in_err-read-in-false-true : goal.returns-in_err-read-in-false-true
+returns-in_err-read-in-false-true g c =
+    met _ c.from_residual-in_err-read-in-false-true.result _ c.from_residual-in_err-read-in-false-true.ensures.1 c.in_err-read-in-false-true.ensures.0
+    (none_first _ _ (here g) c.args.before.now c.args.after.now c.requires (eqb-false _ 0 (sym c.in-false-true.ensures)) (λ s. c.in_err-read-in-false-true.ensures.1 _ (g.met.C.Calendar.bounded s)))
 
-pub returns-in_err-read-3 : goal.returns-in_err-read-3
-returns-in_err-read-3 g c =
-    met _ c.from_residual-in_err-read-3.result _ c.from_residual-in_err-read-3.ensures.1 c.in_err-read-3.ensures.0
-    (none_first _ _ (here g) c.args.before.now c.args.after.now c.requires (eqb-false _ 0 (sym c.in-false-false.ensures)) (λ s. c.in_err-read-3.ensures.1 _ (g.met.C.Calendar.bounded s)))
+pub returns-in_err-read-in-false-false : goal.returns-in_err-read-in-false-false
+returns-in_err-read-in-false-false g c =
+    met _ c.from_residual-in_err-read-in-false-false.result _ c.from_residual-in_err-read-in-false-false.ensures.1 c.in_err-read-in-false-false.ensures.0
+    (none_first _ _ (here g) c.args.before.now c.args.after.now c.requires (eqb-false _ 0 (sym c.in-false-false.ensures)) (λ s. c.in_err-read-in-false-false.ensures.1 _ (g.met.C.Calendar.bounded s)))
 
-pub returns-in_err-read-4 : goal.returns-in_err-read-4
-returns-in_err-read-4 g c =
-    met _ c.from_residual-in_err-read-4.result _ c.from_residual-in_err-read-4.ensures.1 c.in_err-read-4.ensures.0
-    (none_between _ _ (here g) c.args.before.now c.args.after.now c.requires (eqb-false _ 0 (sym c.in-false-false.ensures)) (eqb-false _ 0 (sym c.in-false-false.ensures')) (λ s. c.in_err-read-4.ensures.1 _ (g.met.C.Calendar.bounded s)))
+pub returns-in_err-read-in-false-false-2 : goal.returns-in_err-read-in-false-false-2
+returns-in_err-read-in-false-false-2 g c =
+    met _ c.from_residual-in_err-read-in-false-false-2.result _ c.from_residual-in_err-read-in-false-false-2.ensures.1 c.in_err-read-in-false-false-2.ensures.0
+    (none_between _ _ (here g) c.args.before.now c.args.after.now c.requires (eqb-false _ 0 (sym c.in-false-false.ensures)) (eqb-false _ 0 (sym c.in-false-false.ensures')) (λ s. c.in_err-read-in-false-false-2.ensures.1 _ (g.met.C.Calendar.bounded s)))
 
-pub returns-in_ok-read : goal.returns-in_ok-read
-returns-in_ok-read g c = until_spelled c.args.before.now c.args.after.now _ (eqb-true _ 0 (sym c.in-true-default.ensures)) c.in_ok-read.ensures
+pub returns-in_ok-read-in-true-default : goal.returns-in_ok-read-in-true-default
+returns-in_ok-read-in-true-default g c = until_spelled c.args.before.now c.args.after.now _ (eqb-true _ 0 (sym c.in-true-default.ensures)) c.in_ok-read-in-true-default.ensures
 
-pub returns-in_ok-read-2 : goal.returns-in_ok-read-2
-returns-in_ok-read-2 g c = since_spelled c.args.before.now c.args.after.now _ (eqb-true _ 0 (sym c.in-false-true.ensures')) c.in_ok-read-2.ensures
+pub returns-in_ok-read-in-false-true : goal.returns-in_ok-read-in-false-true
+returns-in_ok-read-in-false-true g c = since_spelled c.args.before.now c.args.after.now _ (eqb-true _ 0 (sym c.in-false-true.ensures')) c.in_ok-read-in-false-true.ensures

@@ -24,10 +24,10 @@ returns-in_err-at g c =
     met _ c.from_residual.result _ c.from_residual.ensures.1 c.in_err-at.ensures.0
     (none_stray _ _ (here g) c.args.word.now (λ e. false≢true (sym c.if-eq.false ∙ (slice_eq-Decides Decides-eqb _ _ _ c.eq.ensures).1 e)) c.in_err-at.ensures.1)
 
-pub returns-in_err-read : goal.returns-in_err-read
-returns-in_err-read g c =
-    met _ c.from_residual-in_err-read.result _ c.from_residual-in_err-read.ensures.1 c.in_err-read.ensures.0
-    (none_plain _ _ (here g) c.args.word.now (λ e. false≢true (sym c.if-eq.false ∙ (slice_eq-Decides Decides-eqb _ _ _ c.eq.ensures).1 e)) (MatchOption-at_none _ _ c.in-None.is c.in_ok-at.ensures) (λ s. c.in_err-read.ensures.1 _ (g.met.C.Calendar.bounded s)))
+pub returns-in_err-read-in-None : goal.returns-in_err-read-in-None
+returns-in_err-read-in-None g c =
+    met _ c.from_residual-in_err-read-in-None.result _ c.from_residual-in_err-read-in-None.ensures.1 c.in_err-read-in-None.ensures.0
+    (none_plain _ _ (here g) c.args.word.now (λ e. false≢true (sym c.if-eq.false ∙ (slice_eq-Decides Decides-eqb _ _ _ c.eq.ensures).1 e)) (MatchOption-at_none _ _ c.in-None.is c.in_ok-at.ensures) (λ s. c.in_err-read-in-None.ensures.1 _ (g.met.C.Calendar.bounded s)))
 
 pub returns-in-Some : goal.returns-in-Some
 returns-in-Some g c =
