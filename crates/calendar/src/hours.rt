@@ -2,7 +2,7 @@
 ghost use Rattle.calendar.specs.Hours.{last_hour, hour_width, hour_text};
 ghost use Rattle.calendar.specs.Refusals.{number_of};
 ghost use Rattle.std.specs.Prelude.{◌≡◌, ℕ, ◌<◌, ◌≤◌, MatchResult};
-ghost use Rattle.std.proofs.Common.{rules, arith};
+ghost use Rattle.std.proofs.Common.{rules};
 
 use crate::decimal::{digit, number};
 use crate::orders::Calendar;
@@ -48,9 +48,9 @@ impl Calendar for Hour {
 
     const MARK: u32 = 1;
 
-    ghost bounded = { first_of (Prim.search rules, Prim.grind (arith, Self.row.coded.inj)) };
+    ghost bounded = { Prim.search rules };
 
-    ghost limited = { first_of (Prim.search rules, Prim.grind (arith, Self.row.coded.inj)) };
+    ghost limited = { Prim.search rules };
 
     fn mark_number() -> u32 {
         Self::MARK
@@ -78,15 +78,15 @@ impl Printable for Hour {
 
     ghost text = { hour_text };
 
-    ghost wide = { first_of (Prim.search rules, Prim.grind (arith, Self.row.coded.inj)) };
+    ghost wide = { Prim.search rules };
 
-    ghost narrow = { first_of (Prim.search rules, Prim.grind (arith, Self.row.coded.inj)) };
+    ghost narrow = { Prim.search rules };
 
-    ghost whole = { first_of (Prim.search rules, Prim.grind (arith, Self.row.coded.inj)) };
+    ghost whole = { Prim.search rules };
 
-    ghost printed = { first_of (Prim.search rules, Prim.grind (arith, Self.row.coded.inj)) };
+    ghost printed = { Prim.search rules };
 
-    ghost one_place = { first_of (Prim.search rules, Prim.grind (arith, Self.row.coded.inj)) };
+    ghost one_place = { Prim.search rules };
 
     fn width() -> usize {
         WIDTH

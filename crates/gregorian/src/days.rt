@@ -2,7 +2,7 @@
 ghost use Rattle.gregorian.specs.Dates.{date, date_at, date_text, date_width, last_day, Counted, Stepped, OnePlace, Ended, LeapDay};
 ghost use Rattle.calendar.specs.Refusals.{number_of};
 ghost use Rattle.std.specs.Prelude.{◌≡◌, ℕ, ◌<◌, ◌≤◌, MatchResult, ◌≢◌};
-ghost use Rattle.std.proofs.Common.{rules, arith};
+ghost use Rattle.std.proofs.Common.{rules};
 ghost use Rattle.gregorian.specs.DateTexts.{text_place};
 
 use crate::years::{FIRST_YEAR, LAST_YEAR, is_leap, month_of, month_start, year_of, year_start};
@@ -71,9 +71,9 @@ impl Calendar for Day {
 
     const MARK: u32 = 2;
 
-    ghost bounded = { first_of (Prim.search rules, Prim.grind (arith, Self.row.coded.inj)) };
+    ghost bounded = { Prim.search rules };
 
-    ghost limited = { first_of (Prim.search rules, Prim.grind (arith, Self.row.coded.inj)) };
+    ghost limited = { Prim.search rules };
 
     fn mark_number() -> u32 {
         Self::MARK
@@ -101,13 +101,13 @@ impl Printable for Day {
 
     ghost text = { λ n. date_text (date_at n) };
 
-    ghost wide = { first_of (Prim.search rules, Prim.grind (arith, Self.row.coded.inj)) };
+    ghost wide = { Prim.search rules };
 
-    ghost narrow = { first_of (Prim.search rules, Prim.grind (arith, Self.row.coded.inj)) };
+    ghost narrow = { Prim.search rules };
 
-    ghost whole = { first_of (Prim.search rules, Prim.grind (arith, Self.row.coded.inj)) };
+    ghost whole = { Prim.search rules };
 
-    ghost printed = { first_of (Prim.search rules, Prim.grind (arith, Self.row.coded.inj)) };
+    ghost printed = { Prim.search rules };
 
     ghost one_place = { λ m n a b e. text_place m n a b e };
 

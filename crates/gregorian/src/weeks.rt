@@ -2,7 +2,7 @@
 ghost use Rattle.gregorian.specs.Weeks.{week, week_at, week_text, week_width, week_start, last_week, Counted, Stepped, OnePlace, Thursdays, Ended, LongYear};
 ghost use Rattle.calendar.specs.Refusals.{number_of};
 ghost use Rattle.std.specs.Prelude.{◌≡◌, ℕ, ◌<◌, ◌≤◌, MatchResult, ◌≢◌};
-ghost use Rattle.std.proofs.Common.{rules, arith};
+ghost use Rattle.std.proofs.Common.{rules};
 ghost use Rattle.gregorian.specs.WeekTexts.{text_place};
 
 use crate::years::{FIRST_YEAR, LAST_YEAR, year_of, year_start};
@@ -78,9 +78,9 @@ impl Calendar for Week {
 
     const MARK: u32 = 3;
 
-    ghost bounded = { first_of (Prim.search rules, Prim.grind (arith, Self.row.coded.inj)) };
+    ghost bounded = { Prim.search rules };
 
-    ghost limited = { first_of (Prim.search rules, Prim.grind (arith, Self.row.coded.inj)) };
+    ghost limited = { Prim.search rules };
 
     fn mark_number() -> u32 {
         Self::MARK
@@ -108,13 +108,13 @@ impl Printable for Week {
 
     ghost text = { λ n. week_text (week_at n) };
 
-    ghost wide = { first_of (Prim.search rules, Prim.grind (arith, Self.row.coded.inj)) };
+    ghost wide = { Prim.search rules };
 
-    ghost narrow = { first_of (Prim.search rules, Prim.grind (arith, Self.row.coded.inj)) };
+    ghost narrow = { Prim.search rules };
 
-    ghost whole = { first_of (Prim.search rules, Prim.grind (arith, Self.row.coded.inj)) };
+    ghost whole = { Prim.search rules };
 
-    ghost printed = { first_of (Prim.search rules, Prim.grind (arith, Self.row.coded.inj)) };
+    ghost printed = { Prim.search rules };
 
     ghost one_place = { λ m n a b e. text_place m n a b e };
 

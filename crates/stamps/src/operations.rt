@@ -5,7 +5,7 @@ ghost use Rattle.calendar.specs.Orders.{place_limit};
 ghost use Rattle.std.specs.Prelude.{◌≡◌, ℕ, ◌+◌, ◌<◌, ◌≤◌, min, Bool, false, not, ◌&&◌, ◌||◌, length, Decides, MatchOption, ◌==◌, nat_eq, nat_le, slice_index_or};
 ghost use Rattle.std.specs.Cmp.Lexicographic.{pointwise};
 ghost use Rattle.std.specs.Cmp.Rules.{comparing};
-ghost use Rattle.std.proofs.Common.{rules, arith};
+ghost use Rattle.std.proofs.Common.{rules};
 
 use crate::sets::{EDGES, Range, ReferenceSet};
 use crate::sweep::{Op, combine};
@@ -113,7 +113,7 @@ impl ReferenceSet {
 impl PartialEq for ReferenceSet {
     ghost eq = { λ a b. a.used == b.used && pointwise nat_eq a.edges b.edges };
 
-    ghost laws = { first_of (Prim.search (comparing, rules), Prim.grind (arith, Self.row.coded.inj)) };
+    ghost laws = { Prim.search (comparing, rules) };
 
     fn eq(&self, other: &ReferenceSet) -> bool
         ensures kept { result ≡ (self.now.used == other.now.used && pointwise nat_eq self.now.edges other.now.edges) }
