@@ -3,14 +3,14 @@ ghost use Rattle.notation.specs.Forms.{spelled, opens, closes, Chosen, Shortest,
 ghost use Rattle.notation.specs.Marks.{plus, Lacks};
 ghost use Rattle.calendar.specs.Refusals.{number_of};
 ghost use Rattle.ongoing.specs.Points.{starts, stops};
-ghost use Rattle.std.specs.Prelude.{◌≡◌, ◌<◌, ◌≤◌, min, ◌∷◌, ◌++◌, MatchResult, ⊤};
+ghost use Rattle.std.specs.Prelude.{◌≡◌, ◌<◌, ◌≤◌, min, ◌∷◌, ◌++◌, MatchResult};
 
 use crate::marks::first_sign;
 use calendar::{Calendar, Printable, Refusal};
 use ongoing::Point;
-use std::alloc::AllocError;
 
 // The ways to write a point.
+#[derive(Clone, Copy)]
 pub enum Form<C> {
     // `now`: it moves with the reference stamp.
     Now,
@@ -23,18 +23,6 @@ pub enum Form<C> {
     // `S+T`: it is S first, then moves, and then stays at T.
     Between(C, C),
 }
-
-impl<C: Copy> Clone for Form<C> {
-    ghost is_clone = { λ x y. y ≡ x };
-
-    ghost is_infallible = { λ _. ⊤ };
-
-    fn clone(&self) -> Result<Form<C>, AllocError> {
-        Ok(*self)
-    }
-}
-
-impl<C: Copy> Copy for Form<C> {}
 
 impl<C: Printable> Form<C> {
     // The form that the word spells; 11 where it spells none. Takes a step for each byte of the word.
