@@ -24,7 +24,7 @@ pub record WorkedFigures : Type 0 where
   pub moves_inside : place_at last_hour (hours 10 20 (lit≤ tt)) 15 ≡ 15
   -- at 25 it stands at 20
   pub stands_after : place_at last_hour (hours 10 20 (lit≤ tt)) 25 ≡ 20
-  -- the lesser of 10+20 and 12+15 is 10+15
+  -- 10+15 is the lesser, of 10+20 and 12+15
   pub lesser : (m : Point Hour) → starts m ≡ min (starts (hours 10 20 (lit≤ tt))) (starts (hours 12 15 (lit≤ tt)))
       → stops m ≡ min (stops (hours 10 20 (lit≤ tt))) (stops (hours 12 15 (lit≤ tt))) → (starts m ≡ 10) × (stops m ≡ 15)
   -- 10+20 is before 12+30 at 0–11 and at 21–999999, and nowhere else
