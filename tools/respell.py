@@ -312,7 +312,8 @@ def files(top):
             if name.endswith((".antt", ".rt")):
                 yield os.path.join(folder, name), NAMES
     for name in sorted(os.listdir(os.path.join(top, "docs"))):
-        if name.endswith(".md"):
+        # PORT.md tells the old names from the new
+        if name.endswith(".md") and name != "PORT.md":
             yield os.path.join(top, "docs", name), NAMES | IN_PAGES
 
 

@@ -26,7 +26,7 @@ pub trait Calendar: Copy {
 
     const MARK: u32;
 
-    // The mark again, as a call: a proof over any calendar cannot name its constant.
+    // The mark again, as a call, whose contract ties it to the ghost member.
     fn mark_number() -> u32
         ensures { result ≡ mark };
 

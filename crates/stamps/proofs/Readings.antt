@@ -1,13 +1,17 @@
 -- What the reading methods of a `ReferenceSet` rest on.
-use Rattle.std.proofs.Common.{◌≡◌, ℕ, zero, suc, ◌+◌, ◌-◌, ◌*◌, ◌/◌, ◌<◌, ◌≤◌, Bool, List, [], ◌∷◌, length, get_or, take, replicate, IfOk, Ok, Err, Result, sym, refl, ap, ◌∙◌, ⊎_elim, arith}
+use Rattle.std.proofs.Common.{◌≡◌, ℕ, zero, suc, ◌+◌, ◌-◌, ◌*◌, ◌/◌, ◌<◌, ◌≤◌, Bool, ◌==◌, nat_eq, List, [], ◌∷◌, length, get_or, take, replicate, IfOk, Ok, Err, Result, sym, refl, ap, ◌∙◌, ⊎_elim, arith}
+use Rattle.std.specs.Bool.{Decides}
+use Rattle.std.specs.Cmp.Lexicographic.{pointwise}
 use Rattle.std.proofs.lemmas.Bool.{cases_lt}
+use Rattle.std.proofs.lemmas.Bool.Decides.{Decides-and, Decides-eqb}
+use Rattle.std.proofs.lemmas.Slice.Eq.{slice_eq-Decides}
 use Rattle.std.proofs.lemmas.List.{ext_get_or}
 use Rattle.stamps.specs.declared.sets.ReferenceSet.{ReferenceSet}
 use Rattle.calendar.specs.declared.refusals.Refusal.{Refusal}
 use Rattle.stamps.specs.declared.sets.Range.{Range}
 use Rattle.stamps.specs.Ranges.{range, member}
 use Rattle.stamps.specs.Edges.{ranges, odd}
-use Rattle.stamps.specs.Sets.{steps, listing, has, Exactly}
+use Rattle.stamps.specs.Sets.{steps, listing, has, same_kept, Exactly}
 use Rattle.stamps.specs.Sweeps.{Split}
 use Rattle.stamps.proofs.EdgeLemmas.{same_edges}
 use Rattle.stamps.proofs.SetFacts.{steps_long, steps_at, steps_rise, has_inside}
@@ -112,3 +116,12 @@ same_has a b n e p =
 pub made_like : (r : Result ReferenceSet Refusal) (f g : ℕ → Bool) → ((p : ℕ) → f p ≡ g p) → Exactly r f → IfOk r (λ s. (p : ℕ) → has s p ≡ g p)
 made_like (Ok s) f g same h = λ p. h p ∙ same p
 made_like (Err e) f g same h = tt
+
+-- what is kept of two sets is the same just if they have the same places
+pub kept_decides : (a b : ReferenceSet) → Decides (same_kept a b) ((p : ℕ) → has a p ≡ has b p)
+kept_decides a b =
+    let edges = slice_eq-Decides Decides-eqb a.edges b.edges (pointwise nat_eq a.edges b.edges) refl in
+    let kept = Decides-and (a.used == b.used) (pointwise nat_eq a.edges b.edges) (Decides-eqb a.used b.used) edges in (
+      λ t. let same = kept.0 t in same_has a b same.0 same.1,
+      λ same. kept.1 (same_parts a b same),
+    )

@@ -1,9 +1,8 @@
 // Sets of places, what they have, and how they are put together.
 ghost use Rattle.stamps.specs.Ranges.{Listing, OneListing, most_ranges, range};
-ghost use Rattle.stamps.specs.Sets.{listing, has, Exactly};
+ghost use Rattle.stamps.specs.Sets.{listing, has, same_kept, SamePlaces, Exactly};
 ghost use Rattle.calendar.specs.Orders.{place_limit};
-ghost use Rattle.std.specs.Prelude.{◌≡◌, ℕ, ◌+◌, ◌<◌, ◌≤◌, min, Bool, false, not, ◌&&◌, ◌||◌, length, Decides, MatchOption, ◌==◌, nat_eq, nat_le, slice_index_or};
-ghost use Rattle.std.specs.Cmp.Lexicographic.{pointwise};
+ghost use Rattle.std.specs.Prelude.{◌≡◌, ℕ, ◌+◌, ◌<◌, ◌≤◌, min, Bool, false, not, ◌&&◌, ◌||◌, length, Decides, MatchOption, nat_le, slice_index_or};
 ghost use Rattle.std.specs.Cmp.Rules.{comparing};
 ghost use Rattle.std.proofs.Common.{rules};
 
@@ -111,12 +110,12 @@ impl ReferenceSet {
 
 // Two sets are equal just if they have the same places.
 impl PartialEq for ReferenceSet {
-    ghost eq = { λ a b. a.used == b.used && pointwise nat_eq a.edges b.edges };
+    ghost eq = { same_kept };
 
     ghost laws = { Prim.search (comparing, rules) };
 
     fn eq(&self, other: &ReferenceSet) -> bool
-        ensures kept { result ≡ (self.now.used == other.now.used && pointwise nat_eq self.now.edges other.now.edges) }
+        ensures kept { result ≡ same_kept self.now other.now }
         ensures places { Decides result ((p : ℕ) → has self.now p ≡ has other.now p) }
     {
         self.used == other.used && self.edges == other.edges
@@ -126,4 +125,10 @@ impl PartialEq for ReferenceSet {
 // Two listings with the same places are the same listing; the call does nothing.
 pub fn one_listing_stands()
     ensures { OneListing }
+{}
+
+// What `==` computes, for all who meet it through a bound or as `!=`: whether two sets have the same
+// places. The call does nothing.
+pub fn equality_stands()
+    ensures { SamePlaces }
 {}
