@@ -1,4 +1,5 @@
 pub mod Refusals
+pub mod Sentences
 pub mod Orders
 pub mod Decimals
 pub mod Texts

@@ -10,10 +10,8 @@ pub fn digit(n: u32, count: usize, i: usize) -> Option<u8>
         return None;
     }
     let mut rest = n;
-    let mut left = count;
-    while left > i + 1 {
+    for _ in i + 1..count {
         rest /= 10;
-        left -= 1;
     }
     Some(b'0' + (rest % 10) as u8)
 }
@@ -25,10 +23,8 @@ pub fn number(bytes: &[u8]) -> Option<u32>
 {
     let mut n = 0u32;
     for b in bytes {
-        if *b < b'0' || *b > b'9' {
-            return None;
-        }
-        n = n.checked_mul(10)?.checked_add(u32::from(*b - b'0'))?;
+        let digit = char::from(*b).to_digit(10)?;
+        n = n.checked_mul(10)?.checked_add(digit)?;
     }
     Some(n)
 }

@@ -9,10 +9,6 @@ use crate::orders::Calendar;
 use crate::refusals::Refusal;
 use crate::writing::Printable;
 
-const LAST: u32 = 999999;
-
-const WIDTH: usize = 6;
-
 // An hour of a pump or a mixer, by how many hours it has run before. Its place is that count.
 #[derive(Clone, Copy, Debug, PartialEq, Eq)]
 pub struct Hour {
@@ -25,7 +21,7 @@ impl Hour {
     pub fn from_parts(count: u32) -> Result<Hour, Refusal>
         ensures { MatchResult result (λ s. s.count ≡ count) (λ e. (number_of e ≡ 11) × (last_hour < count)) }
     {
-        if count > LAST {
+        if count > Self::LAST_PLACE {
             return Err(Refusal::NoStamp);
         }
         Ok(Hour { count })
@@ -42,9 +38,11 @@ impl Hour {
 impl Calendar for Hour {
     ghost place = { λ h. h.count };
 
-    ghost last = { last_hour };
+    ghost LAST_PLACE = { last_hour };
 
-    ghost mark = { 1 };
+    const LAST_PLACE: u32 = 999999;
+
+    ghost MARK = { 1 };
 
     const MARK: u32 = 1;
 
@@ -52,29 +50,19 @@ impl Calendar for Hour {
 
     ghost limited = { Prim.search rules };
 
-    fn mark_number() -> u32 {
-        Self::MARK
-    }
-
-    fn last_place() -> u32 {
-        LAST
-    }
-
     fn place(self) -> u32 {
         self.count
     }
 
     fn at_place(n: u32) -> Option<Hour> {
-        if n <= LAST {
-            Some(Hour { count: n })
-        } else {
-            None
-        }
+        Hour::from_parts(n).ok()
     }
 }
 
 impl Printable for Hour {
-    ghost width = { hour_width };
+    ghost WIDTH = { hour_width };
+
+    const WIDTH: usize = 6;
 
     ghost text = { hour_text };
 
@@ -88,21 +76,15 @@ impl Printable for Hour {
 
     ghost one_place = { Prim.search rules };
 
-    fn width() -> usize {
-        WIDTH
-    }
-
     fn text_byte(self, i: usize) -> Option<u8> {
-        digit(self.count, WIDTH, i)
+        digit(self.count, Self::WIDTH, i)
     }
 
     fn read(bytes: &[u8]) -> Result<Hour, Refusal> {
-        if bytes.len() != WIDTH {
+        if bytes.len() != Self::WIDTH {
             return Err(Refusal::NoStamp);
         }
-        match number(bytes) {
-            Some(count) => Hour::from_parts(count),
-            None => Err(Refusal::NoStamp),
-        }
+        let count = number(bytes).ok_or(Refusal::NoStamp)?;
+        Hour::from_parts(count)
     }
 }

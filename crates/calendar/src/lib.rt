@@ -11,4 +11,4 @@ pub mod writing;
 pub use hours::Hour;
 pub use orders::Calendar;
 pub use refusals::Refusal;
-pub use writing::Printable;
+pub use writing::{Printable, Text};

@@ -2,8 +2,9 @@
 use Rattle.std.specs.Prelude.{◌≡◌, ℕ, ◌-◌, ◌<◌, ◌≤◌, List, ◌∷◌, ◌++◌, length, take, drop, slice_index}
 use Rattle.std.proofs.Common.{sym, ap, ◌∙◌, arith}
 use Rattle.std.proofs.lemmas.List.{length-drop, get_or-drop, drop-drop, take_all}
+use Rattle.std.proofs.Math.Seq.{split_at}
 use Rattle.calendar.specs.Decimals.{decimal}
-use Rattle.calendar.proofs.Decimals.{one_number, piece}
+use Rattle.calendar.proofs.Decimals.{one_number}
 use Rattle.gregorian.specs.Years.{leap}
 use Rattle.gregorian.specs.Dates.{Date, date_at, date_text}
 use Rattle.gregorian.specs.Counting.{month_most}
@@ -38,9 +39,9 @@ joint a b c = a ++ (45 ∷ (b ++ (45 ∷ c)))
 
 ten : (bs : List ℕ) → length bs ≡ 10 → slice_index bs 4 ≡ 45 → slice_index bs 7 ≡ 45 → bs ≡ joint (take 4 bs) (take 2 (drop 5 bs)) (take 2 (drop 8 bs))
 ten bs l a b =
-    let p = piece 4 bs 45 (omega arith) a in
+    let p = rw a at (split_at bs 4 0 (omega arith)) in
     let n : length (drop 5 bs) ≡ 5 = length-drop 5 bs ∙ ap (λ (x : ℕ). x - 5) l in
-    let q = piece 2 (drop 5 bs) 45 (omega arith) (get_or-drop 5 bs 2 0 ∙ b) in
+    let q = rw (get_or-drop 5 bs 2 0, b) at (split_at (drop 5 bs) 2 0 (omega arith)) in
     let d : drop 3 (drop 5 bs) ≡ drop 8 bs = drop-drop 3 5 bs in
     let n' : length (drop 8 bs) ≡ 2 = length-drop 8 bs ∙ ap (λ (x : ℕ). x - 8) l in
     let t : take 2 (drop 8 bs) ≡ drop 8 bs = take_all 2 (drop 8 bs) (omega arith) in

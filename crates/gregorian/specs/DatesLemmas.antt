@@ -109,9 +109,7 @@ at_date t r = let p = date_at_lem (place_of t) in place_one (date_at (place_of t
 pub year_to : (n : ℕ) → n ≤ 109572 → (date_at n).year ≤ 2199
 year_to n h =
     let p = date_at_lem n in
-    ⊎_elim (λ l. omega arith)
-    (λ l. absurd (omega (arith, p.1, year_end, total_up (λ k. year_days (1900 + k)) 300 ((date_at n).year - 1900) (omega arith))))
-    (cases_lt (date_at n).year 2200)
+    grind (arith, p.1, year_end, total_up (λ k. year_days (1900 + k)) 300 ((date_at n).year - 1900))
 
 pub place_to : (t : Date) → Real t → t.year ≤ 2199 → place_of t ≤ 109572
 place_to t r h =

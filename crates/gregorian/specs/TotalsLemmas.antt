@@ -1,7 +1,7 @@
 -- Sums of the first values of a function, and tests of all numbers below a bound.
-use Rattle.std.specs.Prelude.{◌≡◌, ℕ, zero, suc, ◌+◌, ◌-◌, ◌<◌, ◌≤◌, Bool, true, ◌&&◌}
+use Rattle.std.specs.Prelude.{◌≡◌, ℕ, zero, suc, ◌+◌, ◌-◌, ◌<◌, ◌≤◌, Bool, true, false, ◌&&◌, nat_le}
 use Rattle.std.proofs.Common.{subst, ⊎_elim, arith, add-one}
-use Rattle.std.proofs.lemmas.Bool.{and_parts, cases_lt, cases_order}
+use Rattle.std.proofs.lemmas.Bool.{and_parts, cases_lt, leb-true}
 use Rattle.gregorian.specs.Totals.{total}
 
 pub total_more : (f : ℕ → ℕ) (n : ℕ) → total f (n + 1) ≡ total f n + f n
@@ -22,10 +22,7 @@ total_up f i j h =
 
 -- a number lies under one sum only
 pub total_one : (f : ℕ → ℕ) (i j p : ℕ) → total f i ≤ p → p < total f (i + 1) → total f j ≤ p → p < total f (j + 1) → i ≡ j
-total_one f i j p a b c d =
-    ⊎_elim (λ e. e)
-    (⊎_elim (λ h. absurd (omega (arith, total_up f (i + 1) j (omega arith)))) (λ h. absurd (omega (arith, total_up f (j + 1) i (omega arith)))))
-    (cases_order i j)
+total_one f i j p a b c d = grind (arith, total_up f (i + 1) j, total_up f (j + 1) i)
 
 -- a test of each number below a bound
 abbrev pub each : (ℕ → Bool) → ℕ → Bool
@@ -37,3 +34,8 @@ at f zero e k h = absurd (omega arith)
 at f (suc n) e k h =
     let p = and_parts (f n) (each f n) e in
     ⊎_elim (λ l. at f n p.1 k l) (λ l. let s : n ≡ k = omega arith in subst (λ (m : ℕ). f m ≡ true) s p.0) (cases_lt k n)
+
+-- the same of a bound, in a year of either length
+pub each_le : (f g : Bool → ℕ → ℕ) (n : ℕ) → each (λ k. nat_le (f true k) (g true k)) n ≡ true → each (λ k. nat_le (f false k) (g false k)) n ≡ true → (l : Bool) (k : ℕ) → k < n → f l k ≤ g l k
+each_le f g n t s true k h = leb-true (f true k) (g true k) (at (λ i. nat_le (f true i) (g true i)) n t k h)
+each_le f g n t s false k h = leb-true (f false k) (g false k) (at (λ i. nat_le (f false i) (g false i)) n s k h)

@@ -28,8 +28,11 @@ week_formula (suc n) =
     one_year (year_start n) (leap (1900 + n)) ∙ ap (λ (w : ℕ). (year_start n + 3) / 7 + w) (sym (weeks_of n))
     ∙ ap (λ (w : ℕ). w + weeks (1900 + n)) (week_formula n)
 
+pub week_start_is : (n : ℕ) → week_start n ≡ (year_start n + 3) / 7
+week_start_is n = sym (week_formula n)
+
 pub week_end : week_start 300 ≡ 15653
-week_end = sym (week_formula 300) ∙ ap (λ (x : ℕ). (x + 3) / 7) year_end
+week_end = week_start_is 300 ∙ ap (λ (x : ℕ). (x + 3) / 7) year_end
 
 pub week_more : (y : ℕ) → 1900 ≤ y → week_start (y - 1900 + 1) ≡ week_start (y - 1900) + weeks y
 week_more y h =
@@ -94,9 +97,7 @@ at_week t r = let p = week_at_lem (place_of t) in place_one (week_at (place_of t
 pub year_to : (n : ℕ) → n ≤ 15652 → (week_at n).year ≤ 2199
 year_to n h =
     let p = week_at_lem n in
-    ⊎_elim (λ l. omega arith)
-    (λ l. absurd (omega (arith, p.1, week_end, total_up (λ k. weeks (1900 + k)) 300 ((week_at n).year - 1900) (omega arith))))
-    (cases_lt (week_at n).year 2200)
+    grind (arith, p.1, week_end, total_up (λ k. weeks (1900 + k)) 300 ((week_at n).year - 1900))
 
 pub place_to : (t : WeekDate) → Real t → t.year ≤ 2199 → place_of t ≤ 15652
 place_to t r h =
@@ -130,7 +131,7 @@ in_year : (n p : ℕ) → n < 300 → year_formula n ≤ 7 * p + 3 → 7 * p + 3
 in_year n p few low high =
     let a = year_formula_lem n (omega arith) in
     let b = year_formula_lem (n + 1) (omega arith) in
-    let w : week_start n ≡ (year_formula n + 3) / 7 = sym (ap (λ (x : ℕ). (x + 3) / 7) a ∙ week_formula n) in
+    let w : week_start n ≡ (year_formula n + 3) / 7 = week_start_is n ∙ sym (ap (λ (x : ℕ). (x + 3) / 7) a) in
     subst (λ (x : ℕ). week_at p ≡ week (1900 + n) (p - x + 1)) w (read_off n p (omega (arith, a)) (omega (arith, b))).1
 
 pub last_week_lem : week_at 15652 ≡ week 2199 52

@@ -2,8 +2,9 @@
 use Rattle.std.specs.Prelude.{◌≡◌, ℕ, ◌-◌, ◌<◌, ◌≤◌, List, ◌∷◌, ◌++◌, length, take, drop, slice_index}
 use Rattle.std.proofs.Common.{sym, ap, ◌∙◌, arith}
 use Rattle.std.proofs.lemmas.List.{length-drop, get_or-drop, drop-drop, take_all}
+use Rattle.std.proofs.Math.Seq.{split_at}
 use Rattle.calendar.specs.Decimals.{decimal}
-use Rattle.calendar.proofs.Decimals.{one_number, piece}
+use Rattle.calendar.proofs.Decimals.{one_number}
 use Rattle.gregorian.specs.Weeks.{WeekDate, week_at, week_text}
 use Rattle.gregorian.specs.WeekDates.{some_weeks, week_at_lem, week_one, year_to}
 
@@ -30,9 +31,9 @@ joint a b = a ++ (45 ∷ (87 ∷ b))
 
 eight : (bs : List ℕ) → length bs ≡ 8 → slice_index bs 4 ≡ 45 → slice_index bs 5 ≡ 87 → bs ≡ joint (take 4 bs) (take 2 (drop 6 bs))
 eight bs l a b =
-    let p = piece 4 bs 45 (omega arith) a in
+    let p = rw a at (split_at bs 4 0 (omega arith)) in
     let n : length (drop 5 bs) ≡ 3 = length-drop 5 bs ∙ ap (λ (x : ℕ). x - 5) l in
-    let q : drop 5 bs ≡ 87 ∷ drop 1 (drop 5 bs) = piece 0 (drop 5 bs) 87 (omega arith) (get_or-drop 5 bs 0 0 ∙ b) in
+    let q = rw (get_or-drop 5 bs 0 0, b) at (split_at (drop 5 bs) 0 0 (omega arith)) in
     let d : drop 1 (drop 5 bs) ≡ drop 6 bs = drop-drop 1 5 bs in
     let n' : length (drop 6 bs) ≡ 2 = length-drop 6 bs ∙ ap (λ (x : ℕ). x - 6) l in
     let t : take 2 (drop 6 bs) ≡ drop 6 bs = take_all 2 (drop 6 bs) (omega arith) in

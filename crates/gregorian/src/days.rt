@@ -9,10 +9,6 @@ use crate::years::{FIRST_YEAR, LAST_YEAR, is_leap, month_of, month_start, year_o
 use calendar::decimal::{digit, number};
 use calendar::{Calendar, Printable, Refusal};
 
-const LAST: u32 = 109572;
-
-const WIDTH: usize = 10;
-
 // A day, by how many days lie between it and 1900-01-01: that is its place. 2000-02-29 has place
 // 36,583. A day is a Monday just if 7 divides its place.
 #[derive(Clone, Copy, Debug, PartialEq, Eq)]
@@ -26,7 +22,7 @@ impl Day {
     pub fn from_parts(year: u32, month: u32, day: u32) -> Result<Day, Refusal>
         ensures { MatchResult result (λ s. date_at s.number ≡ date year month day) (λ e. (number_of e ≡ 11) × ((n : ℕ) → n ≤ last_day → date_at n ≢ date year month day)) }
     {
-        if year < FIRST_YEAR || year > LAST_YEAR || month < 1 || month > 12 || day < 1 {
+        if !matches!(year, FIRST_YEAR..=LAST_YEAR) || !matches!(month, 1..=12) || day < 1 {
             return Err(Refusal::NoStamp);
         }
         let leap = is_leap(year);
@@ -40,6 +36,7 @@ impl Day {
     }
 
     // The year, the month and the day of the month. Constant time.
+    #[tactic(auto, using(crate::specs::Counting::rest_below, crate::specs::DatesLemmas::read_off))]
     pub fn parts(self) -> (u32, u32, u32)
         ensures { date_at self.number ≡ date result.0 result.1 result.2 }
     {
@@ -65,9 +62,11 @@ pub fn days_stand()
 impl Calendar for Day {
     ghost place = { λ s. s.number };
 
-    ghost last = { last_day };
+    ghost LAST_PLACE = { last_day };
 
-    ghost mark = { 2 };
+    const LAST_PLACE: u32 = 109572;
+
+    ghost MARK = { 2 };
 
     const MARK: u32 = 2;
 
@@ -75,20 +74,13 @@ impl Calendar for Day {
 
     ghost limited = { Prim.search rules };
 
-    fn mark_number() -> u32 {
-        Self::MARK
-    }
-
-    fn last_place() -> u32 {
-        LAST
-    }
-
     fn place(self) -> u32 {
         self.number
     }
 
+    // Written for each calendar: only this module can make a day.
     fn at_place(n: u32) -> Option<Day> {
-        if n <= LAST {
+        if n <= Self::LAST_PLACE {
             Some(Day { number: n })
         } else {
             None
@@ -97,7 +89,9 @@ impl Calendar for Day {
 }
 
 impl Printable for Day {
-    ghost width = { date_width };
+    ghost WIDTH = { date_width };
+
+    const WIDTH: usize = 10;
 
     ghost text = { λ n. date_text (date_at n) };
 
@@ -111,36 +105,23 @@ impl Printable for Day {
 
     ghost one_place = { λ m n a b e. text_place m n a b e };
 
-    fn width() -> usize {
-        WIDTH
-    }
-
     fn text_byte(self, i: usize) -> Option<u8> {
         let (year, month, day) = self.parts();
-        if i < 4 {
-            digit(year, 4, i)
-        } else if i == 4 || i == 7 {
-            Some(b'-')
-        } else if i < 7 {
-            digit(month, 2, i - 5)
-        } else {
-            digit(day, 2, i - 8)
+        match i {
+            0..=3 => digit(year, 4, i),
+            4 | 7 => Some(b'-'),
+            5..=6 => digit(month, 2, i - 5),
+            _ => digit(day, 2, i - 8),
         }
     }
 
     fn read(bytes: &[u8]) -> Result<Day, Refusal> {
-        if bytes.len() != WIDTH || bytes[4] != b'-' || bytes[7] != b'-' {
+        if bytes.len() != Self::WIDTH || bytes[4] != b'-' || bytes[7] != b'-' {
             return Err(Refusal::NoStamp);
         }
-        let Some(year) = number(&bytes[0..4]) else {
-            return Err(Refusal::NoStamp);
-        };
-        let Some(month) = number(&bytes[5..7]) else {
-            return Err(Refusal::NoStamp);
-        };
-        let Some(day) = number(&bytes[8..10]) else {
-            return Err(Refusal::NoStamp);
-        };
+        let year = number(&bytes[0..4]).ok_or(Refusal::NoStamp)?;
+        let month = number(&bytes[5..7]).ok_or(Refusal::NoStamp)?;
+        let day = number(&bytes[8..10]).ok_or(Refusal::NoStamp)?;
         Day::from_parts(year, month, day)
     }
 }

@@ -9,10 +9,6 @@ use crate::years::{FIRST_YEAR, LAST_YEAR, year_of, year_start};
 use calendar::decimal::{digit, number};
 use calendar::{Calendar, Printable, Refusal};
 
-const LAST: u32 = 15652;
-
-const WIDTH: usize = 8;
-
 // A week, by how many weeks lie between it and 1900-W01: that is its place. 2020-W53 has place 6,313.
 // The week at place n has the days at places 7 n to 7 n + 6.
 #[derive(Clone, Copy, Debug, PartialEq, Eq)]
@@ -22,6 +18,7 @@ pub struct Week {
 }
 
 // The weeks of the first `n` years from 1900 on: as many as there are Thursdays before.
+#[tactic(auto, using(crate::specs::Counting::year_starts, crate::specs::WeekDates::week_start_is))]
 fn week_start(n: u32) -> u32
     requires { n ≤ 300 }
     ensures { result ≡ week_start n }
@@ -35,7 +32,7 @@ impl Week {
     pub fn from_parts(year: u32, number: u32) -> Result<Week, Refusal>
         ensures { MatchResult result (λ s. week_at s.number ≡ week year number) (λ e. (number_of e ≡ 11) × ((n : ℕ) → n ≤ last_week → week_at n ≢ week year number)) }
     {
-        if year < FIRST_YEAR || year > LAST_YEAR || number < 1 {
+        if !matches!(year, FIRST_YEAR..=LAST_YEAR) || number < 1 {
             return Err(Refusal::NoStamp);
         }
         let before = week_start(year - FIRST_YEAR);
@@ -48,6 +45,7 @@ impl Week {
     }
 
     // The year and the number of the week in it. Constant time.
+    #[tactic(auto, using(crate::specs::WeekDates::week_start_is, crate::specs::WeekDates::read_off))]
     pub fn parts(self) -> (u32, u32)
         ensures { week_at self.number ≡ week result.0 result.1 }
     {
@@ -72,9 +70,11 @@ pub fn weeks_stand()
 impl Calendar for Week {
     ghost place = { λ s. s.number };
 
-    ghost last = { last_week };
+    ghost LAST_PLACE = { last_week };
 
-    ghost mark = { 3 };
+    const LAST_PLACE: u32 = 15652;
+
+    ghost MARK = { 3 };
 
     const MARK: u32 = 3;
 
@@ -82,20 +82,13 @@ impl Calendar for Week {
 
     ghost limited = { Prim.search rules };
 
-    fn mark_number() -> u32 {
-        Self::MARK
-    }
-
-    fn last_place() -> u32 {
-        LAST
-    }
-
     fn place(self) -> u32 {
         self.number
     }
 
+    // Written for each calendar: only this module can make a week.
     fn at_place(n: u32) -> Option<Week> {
-        if n <= LAST {
+        if n <= Self::LAST_PLACE {
             Some(Week { number: n })
         } else {
             None
@@ -104,7 +97,9 @@ impl Calendar for Week {
 }
 
 impl Printable for Week {
-    ghost width = { week_width };
+    ghost WIDTH = { week_width };
+
+    const WIDTH: usize = 8;
 
     ghost text = { λ n. week_text (week_at n) };
 
@@ -118,33 +113,22 @@ impl Printable for Week {
 
     ghost one_place = { λ m n a b e. text_place m n a b e };
 
-    fn width() -> usize {
-        WIDTH
-    }
-
     fn text_byte(self, i: usize) -> Option<u8> {
         let (year, number) = self.parts();
-        if i < 4 {
-            digit(year, 4, i)
-        } else if i == 4 {
-            Some(b'-')
-        } else if i == 5 {
-            Some(b'W')
-        } else {
-            digit(number, 2, i - 6)
+        match i {
+            0..=3 => digit(year, 4, i),
+            4 => Some(b'-'),
+            5 => Some(b'W'),
+            _ => digit(number, 2, i - 6),
         }
     }
 
     fn read(bytes: &[u8]) -> Result<Week, Refusal> {
-        if bytes.len() != WIDTH || bytes[4] != b'-' || bytes[5] != b'W' {
+        if bytes.len() != Self::WIDTH || bytes[4] != b'-' || bytes[5] != b'W' {
             return Err(Refusal::NoStamp);
         }
-        let Some(year) = number(&bytes[0..4]) else {
-            return Err(Refusal::NoStamp);
-        };
-        let Some(week) = number(&bytes[6..8]) else {
-            return Err(Refusal::NoStamp);
-        };
+        let year = number(&bytes[0..4]).ok_or(Refusal::NoStamp)?;
+        let week = number(&bytes[6..8]).ok_or(Refusal::NoStamp)?;
         Week::from_parts(year, week)
     }
 }

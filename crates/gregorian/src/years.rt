@@ -16,6 +16,7 @@ pub(crate) fn is_leap(year: u32) -> bool
 
 // The days of the first `n` years from 1900 on: a day more for each year that 4 divides, of which
 // 1900 is none, one less for each century's first year, one more again for 2000.
+#[tactic(auto, using(crate::specs::Counting::year_formula_lem))]
 pub(crate) fn year_start(n: u32) -> u32
     requires { n ≤ 300 }
     ensures { result ≡ year_start n }
@@ -41,6 +42,7 @@ pub(crate) fn month_start(leap: bool, k: u32) -> u32
 
 // The year of a day, counted from 1900. A year has at most 366 days, and over 300 years what the
 // years fall short of that comes to less than one year, so the quotient is at most one too small.
+#[tactic(auto, using(crate::specs::Counting::year_starts, crate::specs::Counting::year_over))]
 pub(crate) fn year_of(place: u32) -> u32
     requires { place ≤ last_day }
     ensures { (result < 300) × (year_start result ≤ place) × (place < year_start (result + 1)) }
@@ -51,6 +53,7 @@ pub(crate) fn year_of(place: u32) -> u32
 
 // The month of a day of the year, counted from 0: months have fewer than 32 days, and over a year
 // what they fall short of that comes to less than one month.
+#[tactic(auto, using(crate::specs::Counting::month_end, crate::specs::Counting::month_low, crate::specs::Counting::month_over))]
 pub(crate) fn month_of(leap: bool, rest: u32) -> u32
     requires { rest < month_start leap 12 }
     ensures { (result < 12) × (month_start leap result ≤ rest) × (rest < month_start leap (result + 1)) }

@@ -1,38 +1,33 @@
-use Rattle.std.proofs.Common.{◌≡◌, ℕ, ◌+◌, ◌-◌, ◌*◌, ◌^◌, ◌<◌, length, get_or, refl, ◌∙◌, subst, arith}
-use Rattle.std.proofs.lemmas.List.{take_all}
-use Rattle.calendar.specs.Decimals.{decimal}
-use Rattle.calendar.proofs.Decimals.{one_more, no_number, too_large}
+use Rattle.std.proofs.Common.{◌≡◌, ℕ, ◌+◌, ◌*◌, ◌^◌, ◌<◌, arith}
+use Rattle.std.specs.Char.{IsDigitOf}
+use Rattle.calendar.proofs.Decimals.{Begins, one_more, no_number, too_large}
 use Rattle.calendar.proofs.decimal.number.Goals as goal
-use Rattle.calendar.proofs.decimal.number.Goals.{then-b-lt48-via-then-b-lt48, then-b-lt48-via-else-b-lt48+then-b-gt57}
+use Rattle.calendar.proofs.decimal.number.Goals.{In_ok-digit}
 
-pub returns-then-b-lt48 : goal.returns-then-b-lt48
-returns-then-b-lt48 c n fits s =
-    no_number c.args.bytes.now c.loop-b.b-index (omega arith)
-    (λ d. elim c.then-b-lt48.branch [ then-b-lt48-via-then-b-lt48 w ↦ omega arith | then-b-lt48-via-else-b-lt48+then-b-gt57 w ↦ omega arith ])
-    n s.1
+-- a digit below 10 is one of `0` to `9`, and no letter
+read_digit : (c d : ℕ) → IsDigitOf c d → d < 10 → 48 + d ≡ c
+read_digit c d is h = grind arith
+
+-- the number so far and one digit more, whether or not that fits
+more : (c : goal.In_ok-digit) → Begins c.args.bytes.now (c.loop-b.b-index + 1) (c.loop-b.n * 10 + c.in_ok-digit.digit)
+more c =
+    let small : c.in_ok-digit.digit < 10 = omega (arith, c.in_ok-digit.ensures.value.0, c.in_ok-digit.ensures.value.1) in
+    let e = read_digit c.from.result c.in_ok-digit.digit c.in_ok-digit.ensures.cases small in
+    one_more c.args.bytes.now c.loop-b.b-index c.loop-b.n c.in_ok-digit.digit (omega arith) (omega (arith, e, c.from.ensures)) small c.loop-b.invariant
+
+pub returns-in_err-digit : goal.returns-in_err-digit
+returns-in_err-digit c =
+    rw c.from_residual.ensures
+    (λ n fits s. no_number c.args.bytes.now c.loop-b.b-index (omega arith) (λ d. omega (arith, c.in_err-digit.ensures.cases, c.from.ensures)) n s.1)
 
 pub returns-in_err-checked_mul : goal.returns-in_err-checked_mul
 returns-in_err-checked_mul c =
-    rw c.from_residual.ensures
-    (too_large c.args.bytes.now c.loop-b.b-index c.loop-b.n _ c.loop-b-test.true refl (omega arith, omega arith) c.loop-b.invariant
-    (let fails : c.loop-b.n * 10 < 2 ^ 32 → ⊥ = c.in_err-checked_mul.ensures in omega arith))
+    let fails : c.loop-b.n * 10 < 2 ^ 32 → ⊥ = c.in_err-checked_mul.ensures in
+    rw c.from_residual-in_err-checked_mul.ensures
+    (too_large c.args.bytes.now (c.loop-b.b-index + 1) _ (omega arith) (more (goal.at.returns-in_err-checked_mul c).In_ok-digit) (omega arith))
 
 pub returns-in_err-n : goal.returns-in_err-n
 returns-in_err-n c =
+    let fails : c.in_ok-checked_mul.field-0 + c.in_ok-digit.digit < 2 ^ 32 → ⊥ = c.in_err-n.ensures in
     rw c.from_residual-in_err-n.ensures
-    (too_large c.args.bytes.now c.loop-b.b-index c.loop-b.n _ c.loop-b-test.true refl (omega arith, omega arith) c.loop-b.invariant
-    (let fails : c.in_ok-checked_mul.field-0 + c.from.result < 2 ^ 32 → ⊥ = c.in_err-n.ensures in omega (arith, c.in_ok-checked_mul.ensures, c.from.ensures)))
-
-pub loop-b-preserved : goal.loop-b-preserved
-loop-b-preserved c =
-    let e : c.in_ok-n.n ≡ 10 * c.loop-b.n + (get_or c.args.bytes.now c.loop-b.b-index 0 - 48) =
-    omega (arith, c.in_ok-n.ensures, c.in_ok-checked_mul.ensures, c.from.ensures) in
-    rw e (one_more c.args.bytes.now c.loop-b.b-index c.loop-b.n _ c.loop-b-test.true refl (omega arith, omega arith) c.loop-b.invariant)
-
-pub returns : goal.returns
-returns c =
-    let e : c.loop-b.b-index ≡ length c.args.bytes.now = omega arith in (
-      subst (λ (k : ℕ). c.loop-b.n < 10 ^ k) e c.loop-b.invariant.0,
-      subst (λ (k : ℕ). decimal k c.loop-b.n ≡ c.args.bytes.now) e
-          (c.loop-b.invariant.1 ∙ take_all c.loop-b.b-index c.args.bytes.now (omega arith)),
-    )
+    (too_large c.args.bytes.now (c.loop-b.b-index + 1) _ (omega arith) (more (goal.at.returns-in_err-n c).In_ok-digit) (omega (arith, c.in_ok-checked_mul.ensures)))

@@ -6,12 +6,12 @@ use Rattle.gregorian.specs.DatesLemmas.{named, assembled}
 use Rattle.gregorian.proofs.days.Day.from_parts.Goals as goal
 use Rattle.gregorian.proofs.days.Day.from_parts.Goals.{After-year_start}
 
-pub returns-then-year-lt-FIRST_YEAR : goal.returns-then-year-lt-FIRST_YEAR
-returns-then-year-lt-FIRST_YEAR c = (
+pub returns-then-not-matches : goal.returns-then-not-matches
+returns-then-not-matches c = (
   refl,
   λ n h e.
       let p = named n c.args.year c.args.month c.args.day h e in
-      omega (arith, p.0, p.1, c.then-year-lt-FIRST_YEAR.either),
+      grind arith,
 )
 
 pub overflow_sub-month_start : goal.overflow_sub-month_start

@@ -4,12 +4,12 @@ use Rattle.gregorian.specs.WeekDates.{named, week_more, assembled}
 use Rattle.gregorian.proofs.weeks.Week.from_parts.Goals as goal
 use Rattle.gregorian.proofs.weeks.Week.from_parts.Goals.{Else-number-week_start}
 
-pub returns-then-year-lt-FIRST_YEAR : goal.returns-then-year-lt-FIRST_YEAR
-returns-then-year-lt-FIRST_YEAR c = (
+pub returns-then-not-matches : goal.returns-then-not-matches
+returns-then-not-matches c = (
   refl,
   λ n h e.
       let p = named n c.args.year c.args.number h e in
-      omega (arith, p.0, p.1, c.then-year-lt-FIRST_YEAR.either),
+      grind arith,
 )
 
 pub overflow_sub-week_start : goal.overflow_sub-week_start

@@ -1,8 +1,8 @@
-use Rattle.std.proofs.Common.{◌≡◌, ℕ, List, length, take, drop, sym, refl, ap, ◌∙◌, arith}
+use Rattle.std.proofs.Common.{◌≡◌, ℕ, List, length, take, drop, sym, ap, ◌∙◌, arith}
 use Rattle.std.proofs.lemmas.List.{length-take, length-drop}
 use Rattle.std.proofs.lemmas.Result.{MatchResult-weaker}
 use Rattle.gregorian.specs.Weeks.{week, week_at, week_text}
-use Rattle.calendar.proofs.Decimals.{part_none, part_some}
+use Rattle.calendar.proofs.Parts.{part_read, part_refused}
 use Rattle.gregorian.specs.WeekTexts.{text_bytes, text_one, narrow}
 use Rattle.gregorian.proofs.weeks.WeekPrintable.read.Goals as goal
 
@@ -12,30 +12,27 @@ front bs l = simp length-take (omega arith)
 back : (bs : List ℕ) → length bs ≡ 8 → length (take 2 (drop 6 bs)) ≡ 2
 back bs l = simp (length-take, length-drop) (omega arith)
 
-pub returns-in_default : goal.returns-in_default
-returns-in_default c = (
-  refl,
-  λ n h e.
-      let bs = c.args.bytes.now in
-      part_none 4 (week_at n).year (take 4 bs) (front bs c.if-bytes-ne-WIDTH.false) c.in_default.ensures (omega (arith, (narrow n h).0)) (narrow n h).0 (ap (λ (xs : List ℕ). take 4 xs) e),
-)
+pub returns-in_err-year : goal.returns-in_err-year
+returns-in_err-year c =
+    let bs = c.args.bytes.now in
+    part_refused 4 (take 4 bs) c.number.result _ c.from_residual.result _ _ (front bs c.if-bytes-ne-WIDTH.false)
+    (sym c.ok_or.ensures.value ∙ c.in_err-year.was) c.number.ensures c.from_residual.ensures.1
+    (λ none n h e. none (week_at n).year (omega (arith, (narrow n h).0)) ((narrow n h).0, ap (λ (xs : List ℕ). take 4 xs) e))
 
-pub returns-in_default-number : goal.returns-in_default-number
-returns-in_default-number c = (
-  refl,
-  λ n h e.
-      let bs = c.args.bytes.now in
-      part_none 2 (week_at n).week (take 2 (drop 6 bs)) (back bs c.if-bytes-ne-WIDTH.false) c.in_default-number.ensures (omega (arith, (narrow n h).1)) (narrow n h).1
-      (ap (λ (xs : List ℕ). take 2 (drop 6 xs)) e),
-)
+pub returns-in_err-week : goal.returns-in_err-week
+returns-in_err-week c =
+    let bs = c.args.bytes.now in
+    part_refused 2 (take 2 (drop 6 bs)) c.number-2.result _ c.from_residual-in_err-week.result _ _ (back bs c.if-bytes-ne-WIDTH.false)
+    (sym c.ok_or-2.ensures.value ∙ c.in_err-week.was) c.number-2.ensures c.from_residual-in_err-week.ensures.1
+    (λ none n h e. none (week_at n).week (omega (arith, (narrow n h).1)) ((narrow n h).1, ap (λ (xs : List ℕ). take 2 (drop 6 xs)) e))
 
 pub returns : goal.returns
 returns c =
     let bs = c.args.bytes.now in
     let l = c.if-bytes-ne-WIDTH.false in
-    let y = part_some 4 c.in-Some.year (take 4 bs) (front bs l) c.in-Some.ensures in
-    let w = part_some 2 c.in-Some-number.week (take 2 (drop 6 bs)) (back bs l) c.in-Some-number.ensures in
-    let t = week c.in-Some.year c.in-Some-number.week in
+    let y = part_read 4 (take 4 bs) c.number.result c.in_ok-year.year (front bs l) (sym c.ok_or.ensures.value ∙ c.in_ok-year.was) c.number.ensures in
+    let w = part_read 2 (take 2 (drop 6 bs)) c.number-2.result c.in_ok-week.week (back bs l) (sym c.ok_or-2.ensures.value ∙ c.in_ok-week.was) c.number-2.ensures in
+    let t = week c.in_ok-year.year c.in_ok-week.week in
     let x = text_bytes bs t l (omega arith) (omega arith) y.1 w.1 in
     MatchResult-weaker c.from_parts.result c.from_parts.ensures (λ s e. ap week_text e ∙ x)
     (λ r f. (
