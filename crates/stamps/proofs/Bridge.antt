@@ -1,7 +1,8 @@
 -- Edges against ranges.
-use Rattle.std.proofs.Common.{◌≡◌, ℕ, zero, suc, ◌+◌, ◌-◌, ◌*◌, ◌%◌, ◌<◌, Bool, ◌&&◌, ◌||◌, nat_le, false, List, [], ◌∷◌, length, get_or, sym, refl, ap, ◌∙◌, ⊎_elim, arith}
+use Rattle.std.proofs.Common.{◌≡◌, ℕ, zero, suc, ◌+◌, ◌-◌, ◌*◌, ◌/◌, ◌%◌, ◌<◌, ◌≤◌, Bool, ◌&&◌, ◌||◌, nat_le, false, List, [], ◌∷◌, length, get_or, take, drop, sym, refl, ap, ◌∙◌, ⊎_elim, arith}
 use Rattle.std.proofs.lemmas.Bool.{cases_lt}
 use Rattle.std.proofs.lemmas.Bool.Decides.{nat_tests}
+use Rattle.std.proofs.lemmas.List.{take_all}
 use Rattle.stamps.specs.declared.sets.Range.{Range}
 use Rattle.stamps.specs.Ranges.{range, member, Before, Listing, OneListing}
 use Rattle.stamps.specs.Edges.{ranges, Rises, flip, inside}
@@ -26,6 +27,19 @@ member-ranges (x ∷ y ∷ es) p r even =
     let under : p < y → inside es p ≡ false =
     λ l. inside_under es p (λ k m. omega (arith, rises_head y es (rises_tail x (y ∷ es) r) k m)) in
     one_pair x y p (member (ranges es) p) first (λ l. rest ∙ under l) ∙ ap (λ (m : Bool). flip (nat_le x p) (flip (nat_le y p) m)) rest
+
+pub length-ranges : (es : List ℕ) → length (ranges es) ≡ length es / 2
+length-ranges [] = refl
+length-ranges (x ∷ []) = refl
+length-ranges (x ∷ y ∷ es) = omega (arith, length-ranges es)
+
+-- the edges past the first two, as a pattern of a slice leaves them
+pub after_two : (es : List ℕ) → 2 ≤ length es → (length es % 2 ≡ 0) × Rises es
+    → (length (take (length es - 2) (drop 2 es)) % 2 ≡ 0) × Rises (take (length es - 2) (drop 2 es))
+after_two [] l h = absurd (omega arith)
+after_two (x ∷ []) l h = absurd (omega arith)
+after_two (x ∷ y ∷ es) l (even, r) =
+    rw (take_all (length (x ∷ y ∷ es) - 2) es (omega arith)) (omega (arith, even), rises_tail y es (rises_tail x (y ∷ es) r))
 
 -- rising edges list ranges
 pub listing_ranges : (es : List ℕ) → Rises es → Listing (ranges es)

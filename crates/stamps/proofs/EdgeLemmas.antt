@@ -49,6 +49,12 @@ inside_past (x ∷ xs) p h =
     let here : leb x p ≡ true = le-leb x p (h 0 (omega arith)) in
     rw here (ap not (inside_past xs p (λ k l. h (suc k) (omega arith))) ∙ sym (odd-suc (length xs)))
 
+-- some edges stand at p or below, and the others above
+pub inside_parts : (front left : List ℕ) (p : ℕ) → ((k : ℕ) → k < length front → get_or front k 0 ≤ p)
+    → ((k : ℕ) → k < length left → p < get_or left k 0) → inside (front ++ left) p ≡ odd (length front)
+inside_parts front left p under above =
+    inside-append front left p ∙ rw (inside_under left p above) (flip_none (inside front p)) ∙ inside_past front p under
+
 pub rises_tail : (x : ℕ) (xs : List ℕ) → Rises (x ∷ xs) → Rises xs
 rises_tail x xs r i j l m = r (suc i) (suc j) (omega arith) (omega arith)
 

@@ -1,85 +1,68 @@
 -- A combination of two sets has a listing with at most the ranges of both: the sweep, with room for every edge.
-use Rattle.std.proofs.Common.{◌≡◌, ℕ, zero, suc, ◌+◌, ◌/◌, ◌%◌, ◌<◌, ◌≤◌, List, [], ◌∷◌, ◌++◌, length, get_or, sym, refl, ◌∙◌, inl, inr, ⊎_elim, arith}
+use Rattle.std.proofs.Common.{◌≡◌, ℕ, zero, suc, ◌+◌, ◌%◌, ◌<◌, ◌≤◌, Bool, false, not, List, [], ◌∷◌, ◌++◌, length, sym, refl, ◌∙◌, inl, inr, ⊎_elim, arith}
 use mathlib.Core.Bool.{beq}
 use Rattle.std.proofs.lemmas.Bool.{cases_lt, cases_Bool}
 use Rattle.std.proofs.lemmas.List.{length_push}
 use Rattle.stamps.specs.declared.sets.ReferenceSet.{ReferenceSet}
-use Rattle.stamps.specs.declared.sweep.Op.{Op}
 use Rattle.stamps.specs.declared.sets.Range.{Range}
 use Rattle.stamps.specs.Ranges.{Listing, member, HasListing}
 use Rattle.stamps.specs.Edges.{ranges, Rises, inside, odd}
 use Rattle.stamps.specs.Sets.{steps, listing, has}
-use Rattle.stamps.specs.Sweeps.{both, Swept, Least, passed}
-use Rattle.stamps.proofs.Bridge.{member-ranges, listing_ranges}
+use Rattle.stamps.specs.Sweeps.{Least, after}
+use Rattle.stamps.proofs.Swept.{Swept}
+use Rattle.stamps.proofs.Bridge.{member-ranges, length-ranges, listing_ranges}
 use Rattle.stamps.proofs.SetFacts.{steps_rise, steps_even}
-use Rattle.stamps.proofs.Advances.{kept, added, moves, same, apart}
+use Rattle.stamps.proofs.Advances.{kept, added, shortens, same, other}
 use Rattle.stamps.proofs.Ends.{begins, ends_even, ends_say, both_has}
 
-record Whole (op : Op) (xs ys : List ℕ) : Type 0 where
+record Whole (op : Bool → Bool → Bool) (xs ys : List ℕ) : Type 0 where
   edges : List ℕ
   rises : Rises edges
   even : length edges % 2 ≡ 0
   short : length edges ≤ length xs + length ys
-  says : (p : ℕ) → inside edges p ≡ both op (inside xs p) (inside ys p)
+  says : (p : ℕ) → inside edges p ≡ op (inside xs p) (inside ys p)
 
-next : (xs ys : List ℕ) (i j : ℕ) → i ≤ length xs → j ≤ length ys → i + j < length xs + length ys → (e : ℕ) × Least xs ys i j e
-next xs ys i j a b more = ⊎_elim
-    (λ l. ⊎_elim
-    (λ m. ⊎_elim
-    (λ q. (get_or xs i 0, record { first = λ _. omega arith; second = λ _. omega arith; one = inl (l, omega arith) }))
-    (λ q. (get_or ys j 0, record { first = λ _. omega arith; second = λ _. omega arith; one = inr (m, omega arith) }))
-    (cases_lt (get_or xs i 0) (get_or ys j 0)))
-    (λ m. (get_or xs i 0, record { first = λ _. omega arith; second = λ n. absurd (omega arith); one = inl (l, omega arith) }))
-    (cases_lt j (length ys)))
-    (λ l. (get_or ys j 0, record { first = λ n. absurd (omega arith); second = λ _. omega arith; one = inr (omega arith, omega arith) }))
-    (cases_lt i (length xs))
+next : (xs ys : List ℕ) → 0 < length xs + length ys → (e : ℕ) × Least xs ys e
+next [] [] more = absurd (omega arith)
+next (x ∷ xs) [] more = (x, record { first = λ _. omega arith; second = λ n. absurd (omega arith); one = inl (omega arith, refl) })
+next [] (y ∷ ys) more = (y, record { first = λ n. absurd (omega arith); second = λ _. omega arith; one = inr (omega arith, refl) })
+next (x ∷ xs) (y ∷ ys) more = ⊎_elim
+    (λ l. (x, record { first = λ _. omega arith; second = λ _. omega arith; one = inl (omega arith, refl) }))
+    (λ l. (y, record { first = λ _. omega arith; second = λ _. omega arith; one = inr (omega arith, refl) }))
+    (cases_lt x y)
 
-module _ (op : Op) (xs ys : List ℕ) (rx : Rises xs) (ry : Rises ys) (ex : length xs % 2 ≡ 0) (ey : length ys % 2 ≡ 0) where
-  over : (os : List ℕ) (i j : ℕ) → Swept op xs ys os i j → length os ≤ i + j → length xs + length ys ≤ i + j → Whole op xs ys
-  over os i j s f all = record {
+module _ (op : Bool → Bool → Bool) (none : op false false ≡ false) (xs ys : List ℕ) (rx : Rises xs) (ry : Rises ys)
+    (ex : length xs % 2 ≡ 0) (ey : length ys % 2 ≡ 0) where
+  -- the turns that may come, and an edge for each
+  go : (turns : ℕ) (left right os : List ℕ) → Swept op xs ys left right os → length left + length right ≤ turns
+      → length os + turns ≤ length xs + length ys → Whole op xs ys
+  go turns [] [] os s l f = record {
     edges = os;
     rises = s.rises;
-    short = omega (arith, s.first.within, s.second.within);
-    even = ends_even op xs ys os i j s all ex ey;
-    says = ends_say op xs ys os i j s all ex ey;
+    even = ends_even op none xs ys ex ey s;
+    short = omega arith;
+    says = ends_say op none xs ys ex ey s;
   }
-
-  -- a step on, and then the rest
-  on : (os : List ℕ) (i j : ℕ) → Swept op xs ys os i j → length os ≤ i + j → i + j < length xs + length ys
-      → ((os' : List ℕ) (i' j' : ℕ) → Swept op xs ys os' i' j' → length os' ≤ i' + j' → i + j < i' + j' → Whole op xs ys) → Whole op xs ys
-  on os i j s f more rest =
-      let n = next xs ys i j s.first.within s.second.within more in
-      let i' = passed xs i n.0 in
-      let j' = passed ys j n.0 in
-      let further : i + j < i' + j' = moves op xs ys os i j n.0 i' j' rx ry s n.1 refl refl in
+  go zero left right os s l f = absurd (omega arith)
+  go (suc turns) left right os s l f =
+      let n = next left right (omega arith) in
+      let shorter = shortens rx ry ex ey s n.1 in
       ⊎_elim
-      (λ t. rest os i' j' (kept op xs ys os i j n.0 i' j' rx ry s n.1 refl refl (same _ _ t)) (omega arith) further)
-      (λ t. rest (os ++ n.0 ∷ []) i' j' (added op xs ys os i j n.0 i' j' rx ry s n.1 refl refl (apart _ _ t)) (omega (arith, length_push os n.0)) further)
-      (cases_Bool (beq (both op (odd i') (odd j')) (odd (length os))))
-
-  go : (turns : ℕ) (os : List ℕ) (i j : ℕ) → Swept op xs ys os i j → length os ≤ i + j → length xs + length ys ≤ turns + (i + j) → Whole op xs ys
-  go zero os i j s f w = over os i j s f (omega arith)
-  go (suc turns) os i j s f w = ⊎_elim
-      (λ more. on os i j s f more (λ os' i' j' t f' further. go turns os' i' j' t f' (omega arith)))
-      (over os i j s f)
-      (cases_lt (i + j) (length xs + length ys))
-
-length-ranges : (es : List ℕ) → length (ranges es) ≡ length es / 2
-length-ranges [] = refl
-length-ranges (x ∷ []) = refl
-length-ranges (x ∷ y ∷ es) = omega (arith, length-ranges es)
+      (λ t. go turns (after left n.0) (after right n.0) (os ++ n.0 ∷ []) (added rx ry ex ey s n.1 (other _ _ t)) (omega arith) (omega (arith, length_push os n.0)))
+      (λ t. go turns (after left n.0) (after right n.0) os (kept rx ry ex ey s n.1 (same _ _ t)) (omega arith) (omega arith))
+      (cases_Bool (not (beq (op (odd (length (after left n.0))) (odd (length (after right n.0)))) (odd (length os)))))
 
 -- a listing of the combination, with at most the ranges of both
-pub record Short (op : Op) (a b : ReferenceSet) : Type 0 where
+pub record Short (op : Bool → Bool → Bool) (a b : ReferenceSet) : Type 0 where
   pub rs : List Range
   pub listed : Listing rs
-  pub says : (p : ℕ) → member rs p ≡ both op (has a p) (has b p)
+  pub says : (p : ℕ) → member rs p ≡ op (has a p) (has b p)
   pub short : length rs ≤ length (listing a) + length (listing b)
 
-pub short : (op : Op) (a b : ReferenceSet) → Short op a b
-short op a b =
-    let w = go op (steps a) (steps b) (steps_rise a) (steps_rise b) (steps_even a) (steps_even b)
-    (length (steps a) + length (steps b)) [] 0 0 (begins op (steps a) (steps b)) (omega arith) (omega arith) in
+pub short : (op : Bool → Bool → Bool) → op false false ≡ false → (a b : ReferenceSet) → Short op a b
+short op none a b =
+    let w = go op none (steps a) (steps b) (steps_rise a) (steps_rise b) (steps_even a) (steps_even b)
+    (length (steps a) + length (steps b)) (steps a) (steps b) [] (begins op none (steps a) (steps b) (steps_even a) (steps_even b)) (omega arith) (omega arith) in
     let la = length-ranges (steps a) in
     let lb = length-ranges (steps b) in
     let lw = length-ranges w.edges in
@@ -90,5 +73,5 @@ short op a b =
       short = omega (arith, w.short, w.even, steps_even a, steps_even b);
     }
 
-pub has_listing : (op : Op) (a b : ReferenceSet) → HasListing (λ p. both op (has a p) (has b p))
-has_listing op a b = let w = short op a b in (w.rs, (w.listed, w.says))
+pub has_listing : (op : Bool → Bool → Bool) → op false false ≡ false → (a b : ReferenceSet) → HasListing (λ p. op (has a p) (has b p))
+has_listing op none a b = let w = short op none a b in (w.rs, (w.listed, w.says))

@@ -2,12 +2,11 @@
 ghost use Rattle.stamps.specs.Ranges.{Listing, OneListing, most_ranges, range};
 ghost use Rattle.stamps.specs.Sets.{listing, has, same_kept, SamePlaces, Exactly};
 ghost use Rattle.calendar.specs.Orders.{place_limit};
-ghost use Rattle.std.specs.Prelude.{◌≡◌, ℕ, ◌+◌, ◌<◌, ◌≤◌, min, Bool, false, not, ◌&&◌, ◌||◌, length, Decides, MatchOption, nat_le, slice_index_or};
-ghost use Rattle.std.specs.Cmp.Rules.{comparing};
-ghost use Rattle.std.proofs.Common.{rules};
+ghost use Rattle.std.specs.Prelude.{◌≡◌, ℕ, ◌<◌, ◌≤◌, min, false, not, ◌&&◌, ◌||◌, length, Decides, MatchOption, nat_le, slice_index_or};
 
+use crate::ranges::Ranges;
 use crate::sets::{EDGES, Range, ReferenceSet};
-use crate::sweep::{Op, combine};
+use crate::sweep::combine;
 use calendar::Refusal;
 use calendar::orders::PLACE_LIMIT;
 
@@ -16,8 +15,10 @@ impl ReferenceSet {
     pub fn empty() -> ReferenceSet
         ensures { (p : ℕ) → has result p ≡ false }
     {
-        let edges = [0; EDGES];
-        ReferenceSet { used: 0, edges }
+        ReferenceSet {
+            used: 0,
+            edges: [0; EDGES],
+        }
     }
 
     // The places from `low` to `high`, which no calendar takes past the limit of places. Constant
@@ -51,7 +52,8 @@ impl ReferenceSet {
         self.used / 2
     }
 
-    // The range at `i`, in rising order: absent past the last. Constant time.
+    // The range at `i`, in rising order: absent past the last. Constant time, so it does not go by
+    // `ranges`.
     pub fn range_at(&self, i: usize) -> Option<Range>
         ensures { MatchOption result (length (listing self.now) ≤ i) (λ x. (i < length (listing self.now)) × (x ≡ slice_index_or (listing self.now) i (range 0 0))) }
     {
@@ -66,29 +68,37 @@ impl ReferenceSet {
         })
     }
 
-    // Whether the set has the place. Takes a step for each edge before it.
+    // The ranges in rising order, one by one. Constant time, and so is each.
+    pub fn ranges(&self) -> Ranges<'_>
+        ensures left { result ≡ listing self.now }
+        ensures most { length result ≤ most_ranges }
+        ensures listed { Listing result }
+    {
+        Ranges {
+            edges: &self.edges[..self.used],
+        }
+    }
+
+    // Whether the set has the place, which is so just if an odd number of its edges stand at it or
+    // below. Logarithmic in the edges.
     pub fn contains(&self, place: u32) -> bool
         ensures { result ≡ has self.now place }
     {
-        let mut k = 0;
-        while k < self.used && self.edges[k] <= place {
-            k += 1;
-        }
-        k % 2 == 1
+        self.edges[..self.used].partition_point(|edge| *edge <= place) % 2 == 1
     }
 
     // The places of both sets; 16 where these take too many ranges. Takes a step for each edge.
     pub fn and(&self, other: &ReferenceSet) -> Result<ReferenceSet, Refusal>
         ensures { Exactly result (λ p. has self.now p && has other.now p) }
     {
-        combine(Op::And, self, other)
+        combine(|x, y| x && y, self, other)
     }
 
     // The places of either set; 16 where these take too many ranges. Takes a step for each edge.
     pub fn or(&self, other: &ReferenceSet) -> Result<ReferenceSet, Refusal>
         ensures { Exactly result (λ p. has self.now p || has other.now p) }
     {
-        combine(Op::Or, self, other)
+        combine(|x, y| x || y, self, other)
     }
 
     // The places of this set that the other does not have; 16 where these take too many ranges. Takes
@@ -96,7 +106,7 @@ impl ReferenceSet {
     pub fn without(&self, other: &ReferenceSet) -> Result<ReferenceSet, Refusal>
         ensures { Exactly result (λ p. has self.now p && not (has other.now p)) }
     {
-        combine(Op::Without, self, other)
+        combine(|x, y| x && !y, self, other)
     }
 
     // The places up to `last` that this set does not have; 16 where these take too many ranges. Takes
@@ -104,21 +114,7 @@ impl ReferenceSet {
     pub fn not(&self, last: u32) -> Result<ReferenceSet, Refusal>
         ensures { Exactly result (λ p. nat_le p (min last place_limit) && not (has self.now p)) }
     {
-        combine(Op::Without, &ReferenceSet::full(last), self)
-    }
-}
-
-// Two sets are equal just if they have the same places.
-impl PartialEq for ReferenceSet {
-    ghost eq = { same_kept };
-
-    ghost laws = { Prim.search (comparing, rules) };
-
-    fn eq(&self, other: &ReferenceSet) -> bool
-        ensures kept { result ≡ same_kept self.now other.now }
-        ensures places { Decides result ((p : ℕ) → has self.now p ≡ has other.now p) }
-    {
-        self.used == other.used && self.edges == other.edges
+        ReferenceSet::full(last).without(self)
     }
 }
 
@@ -127,8 +123,10 @@ pub fn one_listing_stands()
     ensures { OneListing }
 {}
 
-// What `==` computes, for all who meet it through a bound or as `!=`: whether two sets have the same
-// places. The call does nothing.
+// What `==` computes, also through a bound or as `!=`: whether two sets have the same places. The
+// call does nothing.
 pub fn equality_stands()
-    ensures { SamePlaces }
+    ensures computed { (a b : ReferenceSet) → ⟦<ReferenceSet as PartialEq>⟧.eq a b ≡ same_kept a b }
+    ensures places { (a b : ReferenceSet) → Decides (⟦<ReferenceSet as PartialEq>⟧.eq a b) ((p : ℕ) → has a p ≡ has b p) }
+    ensures kept { SamePlaces }
 {}

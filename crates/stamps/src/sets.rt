@@ -18,8 +18,10 @@ pub struct Range {
 // between the high of one and the low of the next. No other set can exist.
 //
 // Each range is kept as two edges: its low, and the place past its high. The edges past `used` are 0,
-// so that equal sets are equal values.
-#[derive(Clone, Copy)]
+// so that two sets are equal just if they have the same places.
+//
+// A length beside an array: there is no heap, a set is `Copy`, and the kit's `ArrayVec` is not.
+#[derive(Clone, Copy, PartialEq, Eq)]
 pub struct ReferenceSet {
     pub(crate) used: usize,
     pub(crate) edges: [u32; EDGES],

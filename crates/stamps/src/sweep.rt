@@ -1,108 +1,90 @@
 // One sweep over the edges of two sets serves every operation on them.
-ghost use Rattle.stamps.specs.Sets.{steps, has, Exactly};
-ghost use Rattle.stamps.specs.Sweeps.{both, Least, passed, Good, Advanced};
-ghost use Rattle.std.specs.Prelude.{◌≡◌, ℕ, ◌+◌, ◌<◌, ◌≤◌, length};
+ghost use Rattle.stamps.specs.Sets.{has, Exactly};
+ghost use Rattle.stamps.specs.Sweeps.{after, Turns};
+ghost use Rattle.std.specs.Prelude.{◌≡◌, ◌+◌, Bool, false, length};
+ghost use Rattle.std.specs.Iterator.{at_most};
 
 use crate::sets::{EDGES, ReferenceSet};
 use calendar::Refusal;
 
-// What two sets are combined to.
+// An edge of either set, and whether each of the two has the places from there on.
 #[derive(Clone, Copy)]
-pub(crate) enum Op {
-    And,
-    Or,
-    Without,
+struct Turn {
+    edge: u32,
+    in_first: bool,
+    in_second: bool,
 }
 
-impl Op {
-    fn holds(self, x: bool, y: bool) -> bool
-        ensures { result ≡ both self x y }
-    {
-        match self {
-            Op::And => x && y,
-            Op::Or => x || y,
-            Op::Without => x && !y,
+// The edges of two sets in rising order, each once: those of each that are left.
+#[derive(Drop)]
+struct Merged<'a> {
+    first: &'a [u32],
+    second: &'a [u32],
+}
+
+impl<'a> Iterator for Merged<'a> {
+    type Item = Turn;
+
+    ghost next_gives = { Turns };
+
+    ghost remaining = { λ s. at_most (length s.first.now + length s.second.now) };
+
+    // A set has an even number of edges, so an odd number left means that an odd number is passed.
+    fn next(&mut self) -> Option<Turn> {
+        let edge = match (self.first, self.second) {
+            ([x, ..], [y, ..]) => (*x).min(*y),
+            ([x, ..], []) | ([], [x, ..]) => *x,
+            ([], []) => return None,
+        };
+        self.first = past(self.first, edge);
+        self.second = past(self.second, edge);
+        Some(Turn {
+            edge,
+            in_first: self.first.len() % 2 == 1,
+            in_second: self.second.len() % 2 == 1,
+        })
+    }
+}
+
+// The edges past the first, if that is `edge`.
+fn past(edges: &[u32], edge: u32) -> &[u32]
+    ensures { result.now ≡ after edges.now edge }
+{
+    match edges {
+        [first, rest @ ..] if *first == edge => rest,
+        _ => edges,
+    }
+}
+
+// The places at which `holds` is true of whether each of two sets has the place; `op` is what it
+// computes. 16 where these take too many ranges.
+pub(crate) fn combine<F: Fn(bool, bool) -> bool>(
+    holds: F,
+    a: &ReferenceSet,
+    b: &ReferenceSet,
+) -> Result<ReferenceSet, Refusal>
+    ghost op: { Bool → Bool → Bool }
+    requires callable { F.IsAlwaysCallable holds }
+    requires computes { (x y r : Bool) → F.post holds x y r → r ≡ op x y }
+    requires none { op false false ≡ false }
+    ensures { Exactly result (λ p. op (has a.now p) (has b.now p)) }
+{
+    // In the shape of the set that they become.
+    let mut used = 0;
+    let mut edges = [0; EDGES];
+    let turns = Merged {
+        first: &a.edges[..a.used],
+        second: &b.edges[..b.used],
+    };
+    for turn in turns {
+        // The combination has an edge where the answer is another than before it.
+        if holds(turn.in_first, turn.in_second) != (used % 2 == 1) {
+            if used == EDGES {
+                return Err(Refusal::TooManyRanges);
+            }
+            edges[used] = turn.edge;
+            used += 1;
         }
     }
-}
-
-// How many edges of each set are passed, and the edges of the combination so far.
-#[derive(Clone, Copy)]
-struct Sweep {
-    i: usize,
-    j: usize,
-    n: usize,
-    edges: [u32; EDGES],
-}
-
-// The edge that comes next in either set.
-fn least(a: &ReferenceSet, b: &ReferenceSet, i: usize, j: usize) -> u32
-    requires more { i + j < length (steps a.now) + length (steps b.now) }
-    requires first { i ≤ length (steps a.now) }
-    requires second { j ≤ length (steps b.now) }
-    ensures { Least (steps a.now) (steps b.now) i j result }
-{
-    if i >= a.used {
-        b.edges[j]
-    } else if j >= b.used {
-        a.edges[i]
-    } else {
-        a.edges[i].min(b.edges[j])
-    }
-}
-
-// Past the edge at `k` of the set, if that is `e`.
-fn past(s: &ReferenceSet, k: usize, e: u32) -> usize
-    requires { k ≤ length (steps s.now) }
-    ensures { result ≡ passed (steps s.now) k e }
-{
-    if k < s.used && s.edges[k] == e {
-        k + 1
-    } else {
-        k
-    }
-}
-
-// One edge on.
-fn advance(op: Op, a: &ReferenceSet, b: &ReferenceSet, s: Sweep) -> Result<Sweep, Refusal>
-    requires good { Good op a.now b.now s }
-    requires more { s.i + s.j < length (steps a.now) + length (steps b.now) }
-    ensures { Advanced op a.now b.now s result }
-{
-    let e = least(a, b, s.i, s.j);
-    let i = past(a, s.i, e);
-    let j = past(b, s.j, e);
-    let n = s.n;
-    let mut edges = s.edges;
-    if op.holds(i % 2 == 1, j % 2 == 1) == (n % 2 == 1) {
-        return Ok(Sweep { i, j, n, edges });
-    }
-    if n == EDGES {
-        return Err(Refusal::TooManyRanges);
-    }
-    edges[n] = e;
-    Ok(Sweep {
-        i,
-        j,
-        n: n + 1,
-        edges,
-    })
-}
-
-// The combination of two sets.
-pub(crate) fn combine(op: Op, a: &ReferenceSet, b: &ReferenceSet) -> Result<ReferenceSet, Refusal>
-    ensures { Exactly result (λ p. both op (has a.now p) (has b.now p)) }
-{
-    let edges = [0; EDGES];
-    let mut s = Sweep {
-        i: 0,
-        j: 0,
-        n: 0,
-        edges,
-    };
-    while s.i + s.j < a.used + b.used {
-        s = advance(op, a, b, s)?;
-    }
-    let edges = s.edges;
-    Ok(ReferenceSet { used: s.n, edges })
+    Ok(ReferenceSet { used, edges })
 }

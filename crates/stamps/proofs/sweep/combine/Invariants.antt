@@ -1,9 +1,5 @@
-use Rattle.std.proofs.Common.{◌+◌, ◌-◌}
-use Rattle.stamps.specs.Sweeps.{Good}
+use Rattle.stamps.proofs.Swept.{Good}
 use Rattle.stamps.proofs.sweep.combine.Given as goal
 
-abbrev pub invariant-loop-s : goal.invariant-loop-s
-invariant-loop-s l = Good l.op l.a l.b l.s
-
-abbrev pub decreases-loop-s : goal.decreases-loop-s
-decreases-loop-s l = (l.a.used + l.b.used) - (l.s.i + l.s.j)
+abbrev pub invariant-loop-turn : goal.invariant-loop-turn
+invariant-loop-turn g l = Good g.op l.a l.b l.turn-iterator.first.now l.turn-iterator.second.now l.edges l.used

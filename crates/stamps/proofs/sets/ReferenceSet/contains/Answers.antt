@@ -1,11 +1,14 @@
-use Rattle.std.proofs.Common.{arith}
-use Rattle.stamps.proofs.Readings.{contained}
+use Rattle.std.proofs.Common.{leb, leb-true, leb-false, arith, rules}
+use Rattle.std.proofs.lemmas.List.Sorted.{IsPartitionPoint-from_clause, IsPartitionedBy-leb}
+use Rattle.stamps.proofs.Readings.{contained, steps_sorted}
 use Rattle.stamps.proofs.sets.ReferenceSet.contains.Goals as goal
-use Rattle.stamps.proofs.sets.ReferenceSet.contains.Goals.{then-loop-k-test+else-self-k, else-loop-k-test}
 
 pub returns : goal.returns
-returns c = contained c.args.self.now c.loop-k.k c.args.place c.loop-k.invariant.0 c.loop-k.invariant.1
-    (λ l. elim c.loop-k-test.branch [
-      | then-loop-k-test+else-self-k w ↦ omega (arith, w.if-self-k.false)
-      | else-loop-k-test w ↦ absurd (omega (arith, w.loop-k-test.false))
-    ])
+returns c =
+    let s = c.args.self.now in
+    let p = c.args.place in
+    let parted = IsPartitionedBy-leb (λ e. e) _ p (steps_sorted s) in
+    let point = IsPartitionPoint-from_clause (λ e. leb e p) _ _ c.partition_point.ensures.partitioned parted (λ a r q k. search rules) in
+    contained s c.partition_point.result p c.partition_point.ensures.bound
+    (λ k l. leb-true _ _ (point.0 k 0 (omega arith) l))
+    (λ k l m. leb-false _ _ (point.1 k 0 l m))

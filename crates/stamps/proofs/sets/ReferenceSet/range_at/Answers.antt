@@ -1,6 +1,6 @@
 use Rattle.std.proofs.Common.{◌<◌, length, arith}
 use Rattle.stamps.specs.Sets.{listing}
-use Rattle.stamps.proofs.Readings.{placed, same_range}
+use Rattle.stamps.proofs.Readings.{placed}
 use Rattle.stamps.proofs.sets.ReferenceSet.range_at.Goals as goal
 
 pub overflow_sub-result : goal.overflow_sub-result
@@ -11,5 +11,4 @@ overflow_sub-result c =
 pub returns : goal.returns
 returns c =
     let h : c.args.i < length (listing c.args.self.now) = omega (arith, c.count.ensures.count) in
-    let at = placed c.args.self.now c.args.i h in
-    (h, same_range _ _ (omega (arith, at.low)) (omega (arith, at.high)))
+    (h, (placed c.args.self.now c.args.i h).is)

@@ -1,0 +1,5 @@
+use Rattle.std.proofs.Common.{◌&&◌}
+use Rattle.stamps.proofs.sets.ReferenceSet.and.Given as goal
+
+abbrev pub ghost-combine : goal.ghost-combine
+ghost-combine a = λ x y. x && y
