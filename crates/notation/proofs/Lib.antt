@@ -1,5 +1,3 @@
 pub mod Splits
-pub mod Signs
 pub mod Spellings
-pub mod Lengths
 pub mod Oneness

@@ -1,6 +1,8 @@
 -- The ways to write a point, and what each stands for.
 use Rattle.std.specs.Prelude.{◌≡◌, ℕ, ◌<◌, ◌≤◌, ◌⊎◌, List, [], ◌∷◌, ◌++◌, length, codes, Result, MatchResult, ◌≢◌}
+use Rattle.calendar.specs.declared.orders.Calendar.{Ghosts as Places}
 use Rattle.calendar.specs.declared.refusals.Refusal.{Refusal}
+use Rattle.calendar.specs.declared.writing.Printable.{Ghosts as Texts}
 use Rattle.calendar.specs.Refusals.{number_of}
 use Rattle.ongoing.specs.declared.points.Point.{Point}
 use Rattle.ongoing.specs.Points.{starts, stops}
@@ -12,62 +14,68 @@ use Rattle.notation.specs.Marks.{plus}
 abbrev pub now_text : List ℕ
 now_text = codes "now"
 
--- over a calendar, by the place of a stamp; `text n` is the text at place n
-module _ {C : Type 0} (place : C → ℕ) where
-  -- the bytes of a form
-  abbrev pub spelled : (ℕ → List ℕ) → Form C → List ℕ
-  spelled text Now = now_text
-  spelled text (Fixed s) = text (place s)
-  spelled text (Since s) = text (place s) ++ (plus ∷ [])
-  spelled text (Until s) = plus ∷ text (place s)
-  spelled text (Between s t) = text (place s) ++ (plus ∷ text (place t))
-
+-- over a calendar
+module _ {C : Type 0} (c : Places C) where
   -- the place of the first stamp: the calendar's first where none is written
   abbrev pub opens : Form C → ℕ
   opens Now = 0
-  opens (Fixed s) = place s
-  opens (Since s) = place s
+  opens (Fixed s) = c.place s
+  opens (Since s) = c.place s
   opens (Until s) = 0
-  opens (Between s t) = place s
+  opens (Between s t) = c.place s
 
   -- the place of the second stamp: the calendar's last where none is written
-  abbrev pub closes : ℕ → Form C → ℕ
-  closes last Now = last
-  closes last (Fixed s) = place s
-  closes last (Since s) = last
-  closes last (Until s) = place s
-  closes last (Between s t) = place t
+  abbrev pub closes : Form C → ℕ
+  closes Now = c.LAST_PLACE
+  closes (Fixed s) = c.place s
+  closes (Since s) = c.LAST_PLACE
+  closes (Until s) = c.place s
+  closes (Between s t) = c.place t
 
   -- the form leaves out what it can of a point from the place a to the place b
-  abbrev pub Chosen : ℕ → ℕ → ℕ → Form C → Type 0
-  Chosen last a b Now = (a ≢ b) × (a ≡ 0) × (b ≡ last)
-  Chosen last a b (Fixed s) = (a ≡ b) × (place s ≡ a)
-  Chosen last a b (Since s) = (a ≢ b) × (a ≢ 0) × (b ≡ last) × (place s ≡ a)
-  Chosen last a b (Until s) = (a ≢ b) × (a ≡ 0) × (b ≢ last) × (place s ≡ b)
-  Chosen last a b (Between s t) = (a ≢ b) × (a ≢ 0) × (b ≢ last) × (place s ≡ a) × (place t ≡ b)
-
-  -- no form of the same two places takes fewer bytes
-  abbrev pub Shortest : ℕ → (ℕ → List ℕ) → Form C → Type 0
-  Shortest last text f = (g : Form C) → opens g ≡ opens f → closes last g ≡ closes last f → length (spelled text f) ≤ length (spelled text g)
+  abbrev pub Chosen : ℕ → ℕ → Form C → Type 0
+  Chosen a b Now = (a ≢ b) × (a ≡ 0) × (b ≡ c.LAST_PLACE)
+  Chosen a b (Fixed s) = (a ≡ b) × (c.place s ≡ a)
+  Chosen a b (Since s) = (a ≢ b) × (a ≢ 0) × (b ≡ c.LAST_PLACE) × (c.place s ≡ a)
+  Chosen a b (Until s) = (a ≢ b) × (a ≡ 0) × (b ≢ c.LAST_PLACE) × (c.place s ≡ b)
+  Chosen a b (Between s t) = (a ≢ b) × (a ≢ 0) × (b ≢ c.LAST_PLACE) × (c.place s ≡ a) × (c.place t ≡ b)
 
   -- the form stands for the point
-  abbrev pub Stands : ℕ → Form C → Point C → Type 0
-  Stands last f p = (starts p ≡ opens f) × (stops p ≡ closes last f)
+  abbrev pub Stands : Form C → Point C → Type 0
+  Stands f p = (starts p ≡ opens f) × (stops p ≡ closes f)
 
   -- its first stamp is after its second, so it stands for no point
-  abbrev pub Backward : ℕ → Form C → Type 0
-  Backward last f = closes last f < opens f
+  abbrev pub Backward : Form C → Type 0
+  Backward f = closes f < opens f
 
-  -- no form is spelled as the word
-  abbrev pub Unspelled : (ℕ → List ℕ) → List ℕ → Type 0
-  Unspelled text word = (f : Form C) → spelled text f ≢ word
+  -- and over the texts of its stamps
+  module _ (t : Texts C) where
+    -- the bytes of a form
+    abbrev pub spelled : Form C → List ℕ
+    spelled Now = now_text
+    spelled (Fixed s) = t.text (c.place s)
+    spelled (Since s) = t.text (c.place s) ++ (plus ∷ [])
+    spelled (Until s) = plus ∷ t.text (c.place s)
+    spelled (Between r s) = t.text (c.place r) ++ (plus ∷ t.text (c.place s))
 
-  -- some form is spelled as the word, and each that is, is P
-  abbrev pub Spells : (ℕ → List ℕ) → List ℕ → (Form C → Type 0) → Type 0
-  Spells text word P = ((f : Form C) × (spelled text f ≡ word)) × ((f : Form C) → spelled text f ≡ word → P f)
+    -- no form of the same two places takes fewer bytes
+    abbrev pub Shortest : Form C → Type 0
+    Shortest f = (g : Form C) → opens g ≡ opens f → closes g ≡ closes f → length (spelled f) ≤ length (spelled g)
 
-  -- what a word answers: the point that it spells; 11 where it spells no form, and 10 where it spells one that runs backward
-  abbrev pub PointRead : ℕ → (ℕ → List ℕ) → List ℕ → Result (Point C) Refusal → Type 0
-  PointRead last text word r =
-      MatchResult r (λ p. Spells text word (λ f. Stands last f p))
-      (λ e. ((number_of e ≡ 11) × Unspelled text word) ⊎ ((number_of e ≡ 10) × Spells text word (Backward last)))
+    -- no form is spelled as the word
+    abbrev pub Unspelled : List ℕ → Type 0
+    Unspelled word = (f : Form C) → spelled f ≢ word
+
+    -- what a word is read as: the form that it spells; 11 where it spells none
+    abbrev pub FormRead : List ℕ → Result (Form C) Refusal → Type 0
+    FormRead word r = MatchResult r (λ f. spelled f ≡ word) (λ e. (number_of e ≡ 11) × Unspelled word)
+
+    -- some form is spelled as the word, and each that is, is P
+    abbrev pub Spells : List ℕ → (Form C → Type 0) → Type 0
+    Spells word P = ((f : Form C) × (spelled f ≡ word)) × ((f : Form C) → spelled f ≡ word → P f)
+
+    -- what a word answers: the point that it spells; 11 where it spells no form, and 10 where it spells one that runs backward
+    abbrev pub PointRead : List ℕ → Result (Point C) Refusal → Type 0
+    PointRead word r =
+        MatchResult r (λ p. Spells word (λ f. Stands f p))
+        (λ e. ((number_of e ≡ 11) × Unspelled word) ⊎ ((number_of e ≡ 10) × Spells word Backward))

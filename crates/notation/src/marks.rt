@@ -22,25 +22,28 @@ pub enum Mark {
 }
 
 // What the byte is. Constant time.
-pub fn mark_of(byte: u8) -> Mark
-    ensures { result ≡ mark_of byte }
-{
-    match byte as char {
-        '+' => Mark::Sign,
-        '0'..='9' => Mark::Digit,
-        'A'..='Z' => Mark::Letter,
-        '-' | '/' => Mark::Separator,
-        _ => Mark::Stray,
+impl From<u8> for Mark {
+    ghost from_gives = { λ byte mark. mark ≡ mark_of byte };
+
+    fn from(byte: u8) -> Mark {
+        match byte as char {
+            '+' => Mark::Sign,
+            '0'..='9' => Mark::Digit,
+            'A'..='Z' => Mark::Letter,
+            '-' | '/' => Mark::Separator,
+            _ => Mark::Stray,
+        }
     }
 }
 
 // Where the first sign of the word stands, if it has one; 11 where a byte before it is stray, since no
-// stamp has such a byte. Takes a step for each byte up to there.
+// stamp has such a byte. Takes a step for each byte up to there. A loop, since `position` would stop at
+// either byte and not say at which.
 pub(crate) fn first_sign(word: &[u8]) -> Result<Option<usize>, Refusal>
     ensures { MatchResult result (λ o. MatchOption o (Lacks plus word.now) (λ i. (i < length word.now) × (slice_index word.now i ≡ plus) × Lacks plus (take i word.now))) (λ e. (number_of e ≡ 11) × Strays word.now) }
 {
     for (i, byte) in word.iter().enumerate() {
-        match mark_of(*byte) {
+        match Mark::from(*byte) {
             Mark::Sign => return Ok(Some(i)),
             Mark::Digit | Mark::Letter | Mark::Separator => {}
             Mark::Stray => return Err(Refusal::NoStamp),

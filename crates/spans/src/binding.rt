@@ -19,13 +19,16 @@ impl Span {
     }
 
     // The place that the span comes to at a reference place.
+    #[tactic(auto, using(crate::proofs::Bounds::bound_is))]
     pub fn bind(self, place: u32) -> u32
         ensures { result ≡ bound self place }
     {
         self.early.max(place.min(self.late))
     }
 
-    // The span that is, at each reference place, the lesser of the two.
+    // The span that is, at each reference place, the lesser of the two. `greater` is the same by `max`:
+    // one function for both would take the choice as an argument, and say its contract by it.
+    #[tactic(auto, using(crate::proofs::Bounds::bound_is))]
     pub fn lesser(self, other: Span) -> Span
         ensures early { result.early ≡ min self.early other.early }
         ensures late { result.late ≡ min self.late other.late }
@@ -38,6 +41,7 @@ impl Span {
     }
 
     // The span that is, at each reference place, the greater of the two.
+    #[tactic(auto, using(crate::proofs::Bounds::bound_is))]
     pub fn greater(self, other: Span) -> Span
         ensures early { result.early ≡ max self.early other.early }
         ensures late { result.late ≡ max self.late other.late }
@@ -52,6 +56,7 @@ impl Span {
 
 // Whether one span is before another can be told from their four places and the reference place; the
 // call does nothing.
+#[tactic(auto, using(crate::proofs::Bounds::before_by_ends))]
 pub fn before_by_ends_stands()
     ensures { BeforeByEnds }
 {}

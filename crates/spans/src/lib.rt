@@ -4,9 +4,8 @@
 // reference places at which their comparisons and relations hold. Plain numbers, no calendar: the
 // crate `ongoing` has the same by stamps.
 pub mod binding;
-pub mod comparisons;
+mod comparisons;
 pub mod extents;
-mod pieces;
 pub mod relations;
 pub mod spans;
 mod stretches;
