@@ -2,8 +2,8 @@
 use Rattle.std.specs.Prelude.{◌≡◌, ℕ}
 use Rattle.gregorian.specs.Dates.{date, date_at}
 use Rattle.gregorian.specs.Weeks.{week, week_at}
-use Rattle.language_next.specs.declared.calendars.Parts.{Parts}
-use Rattle.language_next.specs.declared.calendars.Parts.TheVariants.{One, Two, Three}
+use Rattle.language.specs.declared.calendars.Parts.{Parts}
+use Rattle.language.specs.declared.calendars.Parts.TheVariants.{One, Two, Three}
 
 -- how many numbers there are
 abbrev pub count_of : Parts → ℕ

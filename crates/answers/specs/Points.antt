@@ -1,5 +1,7 @@
 -- What a command about points answers.
 use Rattle.std.specs.Prelude.{◌≡◌, ℕ, ◌≤◌, min, max, Bool, ◌⊎◌, List, [], ◌∷◌, Ok, Err, Result, MatchResult, ◌==◌, ◌≢◌, nat_le, nat_lt}
+use Rattle.calendar.specs.declared.orders.Calendar.{Ghosts as Places}
+use Rattle.calendar.specs.declared.writing.Printable.{Ghosts as Texts}
 use Rattle.calendar.specs.declared.refusals.Refusal.{Refusal}
 use Rattle.calendar.specs.Refusals.{number_of}
 use Rattle.stamps.specs.declared.sets.ReferenceSet.{ReferenceSet}
@@ -9,10 +11,10 @@ use Rattle.ongoing.specs.declared.intervals.Interval.{Interval}
 use Rattle.ongoing.specs.Points.{place_at, starts, stops}
 use Rattle.ongoing.specs.Intervals.{Relates, Holds}
 use Rattle.notation.specs.Forms.{PointRead}
-use Rattle.language_next.specs.declared.points.Comparison.{Comparison}
-use Rattle.language_next.specs.declared.points.Comparison.TheVariants.{Before, Equal, AtMost}
-use Rattle.language_next.specs.declared.points.PointCommand.{PointCommand}
-use Rattle.language_next.specs.declared.points.PointCommand.TheVariants as command
+use Rattle.language.specs.declared.points.Comparison.{Comparison}
+use Rattle.language.specs.declared.points.Comparison.TheVariants.{Before, Equal, AtMost}
+use Rattle.language.specs.declared.points.PointCommand.{PointCommand}
+use Rattle.language.specs.declared.points.PointCommand.TheVariants as command
 use Rattle.answers.specs.declared.replies.Reply.{Reply}
 use Rattle.answers.specs.declared.replies.Reply.TheVariants as reply
 
@@ -24,30 +26,30 @@ compares AtMost a b = nat_le a b
 abbrev pub interval : {C : Type 0} → Point C → Point C → Interval C
 interval s e = record { start = s; end = e }
 
--- over a calendar's places, last place and texts
-module _ {C : Type 0} (place : C → ℕ) (last : ℕ) (text : ℕ → List ℕ) where
+-- over a calendar's places and texts
+module _ {C : Type 0} (places : Places C) (texts : Texts C) where
   -- the word writes the point
   abbrev pub Writes : List ℕ → Point C → Type 0
-  Writes w p = PointRead place last text w (Ok p)
+  Writes w p = PointRead places texts w (Ok p)
 
   -- the first of the words that writes no point is refused so
   abbrev pub Fails : List (List ℕ) → Refusal → Type 0
   Fails [] e = ⊥
-  Fails (w ∷ ws) e = PointRead place last text w (Err e) ⊎ (((p : Point C) × Writes w p) × Fails ws e)
+  Fails (w ∷ ws) e = PointRead places texts w (Err e) ⊎ (((p : Point C) × Writes w p) × Fails ws e)
 
   -- the word is the text of no stamp, which is refused so
   abbrev pub NoStamp : List ℕ → Refusal → Type 0
-  NoStamp w e = (number_of e ≡ 11) × ((n : ℕ) → n ≤ last → text n ≢ w)
+  NoStamp w e = (number_of e ≡ 11) × ((n : ℕ) → n ≤ places.LAST_PLACE → texts.text n ≢ w)
 
   -- what is told where all words can be read
   abbrev pub Tells : PointCommand → Reply C → Type 0
   Tells (command.Point u) a = (p : Point C) × Writes u.now p × (a ≡ reply.Point p)
-  Tells (command.Bind u t) a = (p : Point C) × (s b : C) × Writes u.now p × (text (place s) ≡ t.now) × (a ≡ reply.Stamp b) × (place b ≡ place_at last p (place s))
+  Tells (command.Bind u t) a = (p : Point C) × (s b : C) × Writes u.now p × (texts.text (places.place s) ≡ t.now) × (a ≡ reply.Stamp b) × (places.place b ≡ place_at places.LAST_PLACE p (places.place s))
   Tells (command.Lesser u v) a = (p q m : Point C) × Writes u.now p × Writes v.now q × (a ≡ reply.Point m) × (starts m ≡ min (starts p) (starts q)) × (stops m ≡ min (stops p) (stops q))
   Tells (command.Greater u v) a = (p q m : Point C) × Writes u.now p × Writes v.now q × (a ≡ reply.Point m) × (starts m ≡ max (starts p) (starts q)) × (stops m ≡ max (stops p) (stops q))
-  Tells (command.Compare x u v) a = (p q : Point C) × (z : ReferenceSet) × Writes u.now p × Writes v.now q × (a ≡ reply.Set z) × Where last z (λ n. compares x (place_at last p n) (place_at last q n))
-  Tells (command.Relate x i) a = (s e p q : Point C) × (z : ReferenceSet) × Writes i.start.now s × Writes i.end.now e × Writes i.from.now p × Writes i.to.now q × (a ≡ reply.Set z) × Relates last x (interval s e) (interval p q) z
-  Tells (command.Holds u v w) a = (s e p : Point C) × (z : ReferenceSet) × Writes u.now s × Writes v.now e × Writes w.now p × (a ≡ reply.Set z) × Holds last (interval s e) p z
+  Tells (command.Compare x u v) a = (p q : Point C) × (z : ReferenceSet) × Writes u.now p × Writes v.now q × (a ≡ reply.Set z) × Where places.LAST_PLACE z (λ n. compares x (place_at places.LAST_PLACE p n) (place_at places.LAST_PLACE q n))
+  Tells (command.Relate x i) a = (s e p q : Point C) × (z : ReferenceSet) × Writes i.start.now s × Writes i.end.now e × Writes i.from.now p × Writes i.to.now q × (a ≡ reply.Set z) × Relates places.LAST_PLACE x (interval s e) (interval p q) z
+  Tells (command.Holds u v w) a = (s e p : Point C) × (z : ReferenceSet) × Writes u.now s × Writes v.now e × Writes w.now p × (a ≡ reply.Set z) × Holds places.LAST_PLACE (interval s e) p z
 
   -- which refusal is told where one cannot
   abbrev pub Refuses : PointCommand → Refusal → Type 0

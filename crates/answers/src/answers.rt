@@ -6,20 +6,17 @@ use crate::parted::Parted;
 use crate::points::answer_points;
 use crate::replies::Reply;
 use crate::stops::Stop;
-use language_next::Command;
+use language::Command;
 
 // The command's answer, on the calendar `C`. Choosing a calendar is the session's part, and is done
 // here already. Constant time, but for the reading of texts.
 pub fn answer<C: Parted>(command: Command) -> Result<Reply<C>, Stop>
-    ensures { Answered C.Calendar.place C.Calendar.last C.Printable.text C.Parted.taken C.Parted.names command.entry result }
+    ensures { Answered C.Calendar C.Printable.own C.Parted.own command.entry result }
 {
     match command {
         Command::Choose(_) => Ok(Reply::Done),
         Command::Calendar(command) => answer_calendar(command),
-        Command::Points(command) => match answer_points(command) {
-            Ok(reply) => Ok(reply),
-            Err(refusal) => Err(Stop::Refused(refusal)),
-        },
+        Command::Points(command) => Ok(answer_points(command)?),
         Command::Help => Ok(Reply::Commands),
     }
 }

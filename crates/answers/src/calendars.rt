@@ -4,11 +4,11 @@ ghost use Rattle.answers.specs.Calendars.{AnsweredCalendar};
 use crate::parted::Parted;
 use crate::replies::Reply;
 use crate::stops::Stop;
-use language_next::CalendarCommand;
+use language::CalendarCommand;
 
 // The command's answer, on the calendar `C`. Constant time, but for the reading of a text.
 pub fn answer_calendar<C: Parted>(command: CalendarCommand) -> Result<Reply<C>, Stop>
-    ensures { AnsweredCalendar C.Calendar.place C.Calendar.last C.Printable.text C.Parted.taken C.Parted.names command.entry result }
+    ensures { AnsweredCalendar C.Calendar C.Printable.own C.Parted.own command.entry result }
 {
     match command {
         CalendarCommand::Place(text) => {

@@ -1,13 +1,13 @@
 // Calendars whose stamps a script names by numbers: an hour by one, a week by two, a day by three.
-ghost use Rattle.answers.specs.Calendars.{RefusesParts};
 ghost use Rattle.answers.specs.Parts.{count_of, names_day, names_hour, names_week};
-ghost use Rattle.language_next.specs.declared.calendars.Parts.{Parts};
+ghost use Rattle.answers.specs.Stops.{RefusesParts};
+ghost use Rattle.language.specs.declared.calendars.Parts.{Parts};
 ghost use Rattle.std.specs.Prelude.{◌≡◌, ℕ, ◌≤◌, MatchResult};
 
 use crate::stops::Stop;
 use calendar::{Calendar, Hour, Printable};
 use gregorian::{Day, Week};
-use language_next::{Misread, Parts};
+use language::{Misread, Parts};
 
 pub trait Parted: Printable {
     // How many numbers name a stamp.
@@ -19,9 +19,10 @@ pub trait Parted: Printable {
     // The stamp that the parts name: 11 where they name none, and misread where there are more or
     // fewer of them than the calendar takes.
     fn named(parts: Parts) -> Result<Self, Stop>
-        ensures { MatchResult result (λ s. names parts (Self.Calendar.place s)) (λ e. RefusesParts e (count_of parts) taken ((n : ℕ) → n ≤ Self.Calendar.last → names parts n → ⊥)) };
+        ensures { MatchResult result (λ s. names parts (Self.Calendar.place s)) (λ e. RefusesParts e (count_of parts) taken ((n : ℕ) → n ≤ Self.Calendar.LAST_PLACE → names parts n → ⊥)) };
 }
 
+// The three take parts apart alike, but each calendar has its number of them.
 impl Parted for Hour {
     ghost taken = { 1 };
 

@@ -7,7 +7,7 @@ pub enum Reply<C> {
     Done,
     Place(u32),
     Stamp(C),
-    // There is no stamp at the place.
+    // There is no stamp at the place. No `Option` in `Stamp`, which every other command fills.
     Absent,
     Point(Point<C>),
     Set(ReferenceSet),

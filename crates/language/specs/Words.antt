@@ -30,3 +30,7 @@ Words line (w ∷ ws) = (0 < length w) × ((rest : List ℕ) × First line w res
 -- the words that a vector of borrowed words holds
 abbrev pub held : {Z : Type 0} → Vec (Bor (List ℕ)) Z → List (List ℕ)
 held v = map (λ x. x.now) (vec_items v)
+
+-- the texts of borrowed words
+abbrev pub texts : List (Bor (List ℕ)) → List (List ℕ)
+texts ws = map (λ x. x.now) ws

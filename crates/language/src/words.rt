@@ -5,19 +5,17 @@ ghost use Rattle.std.specs.Prelude.{◌≡◌, ℕ, ◌<◌, ◌≤◌, not, len
 use crate::memory::Made;
 use std::alloc::Global;
 
-// How many bytes at the front are spaces, or how many are not.
+// How many bytes at the front are spaces, or how many are not. By bytes, as words are defined, where
+// `trim_start_matches` and `find` promise what they do by characters. A flag, since a closure would
+// take its test by a clause of its own: no plainer.
 fn front(line: &str, spaces: bool) -> usize
     ensures within { result ≤ length line.now }
     ensures alike { (k : ℕ) → k < result → (slice_index line.now k == space) ≡ spaces }
     ensures stops { result < length line.now → (slice_index line.now result == space) ≡ not spaces }
 {
-    let bytes = line.as_bytes();
-    for (i, b) in bytes.iter().enumerate() {
-        if (*b == b' ') != spaces {
-            return i;
-        }
-    }
-    bytes.len()
+    line.bytes()
+        .position(|b| (b == b' ') != spaces)
+        .unwrap_or(line.len())
 }
 
 // The first word of a line and what follows it; the word is empty where the line is blank. Takes a

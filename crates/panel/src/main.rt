@@ -2,11 +2,11 @@
 
 // The panel: runs a script, from the file that its argument names or from standard input, and
 // prints the transcript.
-use script::sessions::{Session, is_passed_over};
+use script::{Calendars, Session, is_passed_over};
 use std::{env, fs};
 
 // A command line and its reply, as the transcript shows them.
-fn show(rt: &HostRuntime, session: &mut Session, line: &str) -> anyhow::Result<()> {
+fn show(rt: &HostRuntime, session: &mut Session<Calendars>, line: &str) -> anyhow::Result<()> {
     if !is_passed_over(line) {
         let reply = session.reply(rt.alloc(), line)?;
         println!(rt; "> {line}\n{reply}")?;
@@ -14,9 +14,10 @@ fn show(rt: &HostRuntime, session: &mut Session, line: &str) -> anyhow::Result<(
     Ok(())
 }
 
+// A file is read before it is run, and input is answered line by line, so each has its loop.
 fn run_file(rt: &HostRuntime, path: &str) -> anyhow::Result<()> {
     let script = fs::read_to_string(rt, path)?;
-    let mut session = Session::new();
+    let mut session = Session::<Calendars>::new();
     for line in script.lines() {
         show(rt, &mut session, line)?;
     }
@@ -24,7 +25,7 @@ fn run_file(rt: &HostRuntime, path: &str) -> anyhow::Result<()> {
 }
 
 fn run_input(rt: &HostRuntime) -> anyhow::Result<()> {
-    let mut session = Session::new();
+    let mut session = Session::<Calendars>::new();
     for line in rt.lines(rt.alloc()) {
         show(rt, &mut session, line?.as_str())?;
     }

@@ -1,4 +1,1 @@
-pub mod Parts
-pub mod Answers
-pub mod Texts
 pub mod Sessions

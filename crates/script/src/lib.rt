@@ -1,11 +1,7 @@
 #![tactic(auto)]
 
-// The panel's script language as it is answered: a command is answered on the chosen calendar, and
-// the answer is written as text.
-pub mod answers;
-pub mod parted;
-pub mod replies;
-mod sentences;
+// A session of the panel: the chosen calendar, and the reply to each line of a script.
 pub mod sessions;
-pub mod stops;
-pub mod texts;
+
+pub use language::{Calendars, Points};
+pub use sessions::{Session, is_passed_over};

@@ -1,57 +1,62 @@
 // A session: the chosen calendar, and the reply to each line of a script.
 ghost use Rattle.script.specs.Sessions.{PassedOver, Replied, RepliedOn, Turn, chosen_after};
-ghost use Rattle.script.specs.Texts.{ShownMisread};
+ghost use Rattle.texts.specs.Texts.{ShownMisread};
 ghost use Rattle.std.specs.Prelude.{◌≡◌, IfOk, None, string_bytes, Decides};
 
-use crate::answers::answer;
-use crate::stops::Stop;
-use crate::texts::shown;
+use answers::{Stop, answer};
 use calendar::{Hour, Printable};
 use gregorian::{Day, Week};
-use language::commands::{Command, Kind};
 use language::memory::Made;
-use language::misreads::Misread;
 use language::words::{first_word, words};
+use language::{Command, Kind, Language, Misread};
 use std::alloc::Global;
+use std::marker::PhantomData;
+use texts::shown;
 
+// A session in the language `L`.
 #[derive(Drop)]
-pub struct Session {
+pub struct Session<L> {
     chosen: Option<Kind>,
+    language: PhantomData<L>,
 }
 
 // The text of what the command answers on the calendar of that kind.
-fn replied(heap: Global, kind: Kind, command: Command) -> Made<String>
+fn replied<L: Language>(heap: Global, kind: Kind, command: Command) -> Made<String>
     ensures { IfOk result (λ t. RepliedOn kind command.entry (string_bytes t)) }
 {
     match kind {
-        Kind::Hours => shown(heap, answer::<Hour>(command)),
-        Kind::Days => shown(heap, answer::<Day>(command)),
-        Kind::Weeks => shown(heap, answer::<Week>(command)),
+        Kind::Hours => shown::<Hour, L>(heap, answer(command)),
+        Kind::Days => shown::<Day, L>(heap, answer(command)),
+        Kind::Weeks => shown::<Week, L>(heap, answer(command)),
     }
 }
 
-// The text of what was not understood. The calendar makes no difference to it.
+// The text of what was not understood.
 fn unread(heap: Global, misread: Misread) -> Made<String>
     ensures { IfOk result (λ t. ShownMisread (string_bytes t)) }
 {
-    shown::<Hour>(heap, Err(Stop::Unread(misread)))
+    let stop = Stop::Unread(misread);
+    format!(in heap; "{stop}")
 }
 
-impl Session {
+impl<L: Language> Session<L> {
     // No calendar is chosen yet.
-    pub fn new() -> Session
+    pub fn new() -> Session<L>
         ensures { result.chosen ≡ None }
     {
-        Session { chosen: None }
+        Session {
+            chosen: None,
+            language: PhantomData,
+        }
     }
 
     // The reply to a command line: one line of text or more, with no newline at its end. Takes a
     // step for each byte of the line and of the reply.
     pub fn reply(&mut self, heap: Global, line: &str) -> Made<String>
-        ensures { IfOk result (λ t. Turn self.old.chosen line.now self.new.chosen (string_bytes t)) }
+        ensures { IfOk result (λ t. Turn L.Language.has_keyword self.old.chosen line.now self.new.chosen (string_bytes t)) }
     {
         let words = words(heap, line)?;
-        match Command::read(words.as_slice()) {
+        match L::read(words.as_slice()) {
             Err(misread) => unread(heap, misread),
             Ok(command) => self.perform(heap, command),
         }
@@ -65,7 +70,7 @@ impl Session {
             self.chosen = Some(kind);
         }
         match self.chosen {
-            Some(kind) => replied(heap, kind, command),
+            Some(kind) => replied::<L>(heap, kind, command),
             None => unread(heap, Misread::CalendarFirst),
         }
     }
@@ -77,5 +82,5 @@ pub fn is_passed_over(line: &str) -> bool
     ensures { Decides result (PassedOver line.now) }
 {
     let (word, _) = first_word(line);
-    word.is_empty() || line.as_bytes()[0] == b'#'
+    word.is_empty() || line.starts_with('#')
 }

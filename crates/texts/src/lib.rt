@@ -1,8 +1,8 @@
 #![tactic(auto)]
 
 // Answers as the text that a transcript shows.
-mod sentences;
+pub mod sets;
 pub mod texts;
-pub mod writing;
 
+pub use sets::SetText;
 pub use texts::shown;

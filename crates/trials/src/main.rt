@@ -7,43 +7,15 @@ mod parted;
 mod tests;
 mod walks;
 
-use calendar::{Hour, Printable};
+use calendar::{Hour, Text};
 use gregorian::{Day, Week};
 use parted::Parted;
-use std::fmt::Write;
-use std::{fmt, io};
-use walks::{Tally, walk};
-
-// A stamp, shown by its text.
-#[derive(Drop)]
-struct Shown<T>(T);
-
-impl<T: Printable> fmt::Display for Shown<T> {
-    fn fmt<W: fmt::Write>(&self, f: &mut fmt::Formatter<W>) -> fmt::Result {
-        for i in 0..T::width() {
-            if let Some(b) = self.0.text_byte(i) {
-                f.write_char(char::from(b))?;
-            }
-        }
-        Ok(())
-    }
-}
-
-fn show(rt: &HostRuntime, seen: Tally) -> io::Result<()> {
-    let Tally {
-        stamps,
-        by_parts,
-        by_text,
-        rising,
-        checksum,
-    } = seen;
-    println!(rt; "  {stamps} stamps, {by_parts} came round by parts, {by_text} by text")?;
-    println!(rt; "  {rising} texts above the one before, checksum {checksum:016x}")
-}
+use std::io;
+use walks::walk;
 
 fn report<T: Parted>(rt: &HostRuntime, name: &str) -> io::Result<()> {
-    println!(rt; "{name} from {} to {}", Shown(T::first()), Shown(T::last()))?;
-    show(rt, walk::<T>())
+    println!(rt; "{name} from {} to {}", Text(T::first()), Text(T::last()))?;
+    println!(rt; "{}", walk::<T>())
 }
 
 fn main(rt: HostRuntime) -> io::Result<()> {

@@ -2,7 +2,7 @@
 use calendar::{Hour, Printable, Refusal};
 use gregorian::{Day, Week};
 
-// Each calendar has parts of its own, so that no trait of the library has them.
+// Each calendar has parts of its own, so no trait of the libraries takes a stamp apart.
 pub trait Parted: Printable {
     // The stamp that this one's parts name.
     fn by_parts(self) -> Result<Self, Refusal>;

@@ -4,15 +4,12 @@ mod dates;
 mod orders;
 mod sessions;
 mod sets;
-mod texts;
+mod stamp_texts;
 mod weeks;
 
 use calendar::{Calendar, Refusal};
 
-// The place of the stamp that a call gave, or the number that it was refused with.
-fn answer<T: Calendar>(res: Result<T, Refusal>) -> Result<u32, u32> {
-    match res {
-        Ok(stamp) => Ok(stamp.place()),
-        Err(refusal) => Err(refusal.number()),
-    }
+// The place of the stamp that a call gave, or why it was refused.
+fn answer<T: Calendar>(res: Result<T, Refusal>) -> Result<u32, Refusal> {
+    res.map(|stamp| stamp.place())
 }

@@ -1,6 +1,9 @@
 // A walk over every stamp of a calendar.
 use crate::parted::Parted;
-use calendar::{Printable, Refusal};
+use arrayvec::ArrayString;
+use calendar::{Printable, Refusal, Text};
+use std::fmt;
+use std::fmt::Write;
 
 // The start and the factor of the 64-bit FNV-1a checksum.
 const FNV_BASIS: u64 = 0xcbf2_9ce4_8422_2325;
@@ -23,16 +26,33 @@ pub struct Tally {
     pub checksum: u64,
 }
 
+impl fmt::Display for Tally {
+    fn fmt<W: fmt::Write>(&self, f: &mut fmt::Formatter<W>) -> fmt::Result {
+        let Tally {
+            stamps,
+            by_parts,
+            by_text,
+            rising,
+            checksum,
+        } = *self;
+        writeln!(
+            f,
+            "  {stamps} stamps, {by_parts} came round by parts, {by_text} by text"
+        )?;
+        write!(
+            f,
+            "  {rising} texts above the one before, checksum {checksum:016x}"
+        )
+    }
+}
+
 impl Tally {
-    fn meet<T: Parted>(&mut self, place: u32, stamp: T) {
-        let text = text_of(stamp);
-        let width = T::width().min(ROOM);
-        let bytes = &text[0..width];
-        let before = text_of(T::at_or_last(place.saturating_sub(1)));
+    fn meet<T: Parted>(&mut self, place: u32, stamp: T, text: &str, before: &str) {
+        let bytes = text.as_bytes();
         self.stamps = counted(self.stamps, true);
         self.by_parts = counted(self.by_parts, is_again(place, stamp.by_parts()));
         self.by_text = counted(self.by_text, is_again(place, T::read(bytes)));
-        self.rising = counted(self.rising, &before[0..width] < bytes);
+        self.rising = counted(self.rising, before < text);
         self.checksum = folded(folded(self.checksum, bytes), b"\n");
     }
 }
@@ -46,22 +66,21 @@ fn is_again<T: Parted>(place: u32, again: Result<T, Refusal>) -> bool {
 }
 
 fn folded(checksum: u64, bytes: &[u8]) -> u64 {
-    let mut sum = checksum;
-    for b in bytes {
-        sum = (sum ^ u64::from(*b)).wrapping_mul(FNV_PRIME);
-    }
-    sum
+    bytes.iter().fold(checksum, |sum, b| {
+        (sum ^ u64::from(*b)).wrapping_mul(FNV_PRIME)
+    })
 }
 
-// The text of a stamp, taken byte by byte, and zeros after it.
-fn text_of<T: Printable>(stamp: T) -> [u8; ROOM] {
-    let mut text = [0; ROOM];
-    for i in 0..ROOM {
-        text[i] = stamp.text_byte(i).unwrap_or(0);
+// The text of a stamp: empty where there is no room for it.
+fn text_of<T: Printable>(stamp: T) -> ArrayString<ROOM> {
+    let mut text = ArrayString::new();
+    if write!(text, "{}", Text(stamp)).is_err() {
+        text.clear();
     }
     text
 }
 
+// Each stamp in rising order, with its text and that of the stamp before.
 pub fn walk<T: Parted>() -> Tally {
     let mut seen = Tally {
         stamps: 0,
@@ -70,9 +89,12 @@ pub fn walk<T: Parted>() -> Tally {
         rising: 0,
         checksum: FNV_BASIS,
     };
-    for place in 0..=T::last_place() {
+    let mut before = text_of(T::first());
+    for place in 0..=T::LAST_PLACE {
         if let Some(stamp) = T::at_place(place) {
-            seen.meet(place, stamp);
+            let text = text_of(stamp);
+            seen.meet(place, stamp, text.as_str(), before.as_str());
+            before = text;
         }
     }
     seen

@@ -1,6 +1,6 @@
 // Dates and their places, both ways, and dates that no day has.
 use super::answer;
-use calendar::Calendar;
+use calendar::{Calendar, Refusal};
 use gregorian::Day;
 
 // A year, a month, a day of the month, and the place: the days from 1900-01-01 on.
@@ -112,6 +112,9 @@ fn dates_have_places(rt: HostRuntime) {
 #[test]
 fn no_such_dates(rt: HostRuntime) {
     for &NoDate(year, month, day) in &NO_DATES {
-        assert_eq!(rt; answer(Day::from_parts(year, month, day)), Err(11));
+        assert_eq!(rt;
+            answer(Day::from_parts(year, month, day)),
+            Err(Refusal::NoStamp)
+        );
     }
 }

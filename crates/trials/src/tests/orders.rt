@@ -27,14 +27,13 @@ const REFUSALS: [Refusal; 18] = [
     Refusal::ItemUnwritten,
 ];
 
-// The mark, as a constant and as a call, the last place, and the places of the first stamp, of the
-// last one and of the one that stands for all past it.
-fn bounds<T: Calendar>() -> [u32; 6] {
+// The mark, the last place, and the places of the first stamp, of the last one and of the one that
+// stands for all past it.
+fn bounds<T: Calendar>() -> [u32; 5] {
     let (first, last, past) = (T::first(), T::last(), T::at_or_last(u32::MAX));
     [
         T::MARK,
-        T::mark_number(),
-        T::last_place(),
+        T::LAST_PLACE,
         first.place(),
         last.place(),
         past.place(),
@@ -48,7 +47,7 @@ fn orders<T: Calendar>() -> [Ordering; 3] {
 
 // The calendar with that mark ends at that place.
 fn ends_at<T: Calendar>(rt: &impl Abort, mark: u32, last: u32) {
-    assert_eq!(rt; bounds::<T>(), [mark, mark, last, 0, last, last]);
+    assert_eq!(rt; bounds::<T>(), [mark, last, 0, last, last]);
     assert_eq!(rt;
         orders::<T>(),
         [Ordering::Less, Ordering::Equal, Ordering::Greater]
@@ -70,14 +69,12 @@ fn hours_are_counted(rt: HostRuntime) {
         assert_eq!(rt; answer(Hour::from_parts(count)), Ok(count));
         assert_eq!(rt; Hour::at_or_last(count).parts(), count);
     }
-    assert_eq!(rt; answer(Hour::from_parts(1000000)), Err(11));
+    assert_eq!(rt; answer(Hour::from_parts(1000000)), Err(Refusal::NoStamp));
 }
 
 #[test]
 fn refusals_have_numbers(rt: HostRuntime) {
-    let mut number = 0u32;
-    for &refusal in &REFUSALS {
-        number = number.saturating_add(1);
+    for (number, &refusal) in (1u32..=18).zip(&REFUSALS) {
         assert_eq!(rt; refusal.number(), number);
         assert_eq!(rt; refusal == Refusal::NoStamp, number == 11);
     }

@@ -6,5 +6,4 @@ use Rattle.answers.proofs.points.relate.Goals as goal
 pub returns-in_err-j : goal.returns-in_err-j
 returns-in_err-j g c =
     let x = err_from_is_err_and c.from_residual-in_err-j.result c.from_residual-in_err-j.ensures.1 in
-    let i = c.in_ok-i.ensures in
-    rw (x.1, x.2) (inr ((c.in_ok-i.i.start, i.0), inr ((c.in_ok-i.i.end, i.1), c.in_err-j.ensures)))
+    rw (x.1, x.2) (inr ((c.in_ok-i.i.start, c.in_ok-i.ensures.0), inr ((c.in_ok-i.i.end, c.in_ok-i.ensures.1), c.in_err-j.ensures)))

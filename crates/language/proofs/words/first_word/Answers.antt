@@ -1,16 +1,19 @@
-use Rattle.std.proofs.Common.{rules}
-use Rattle.language.proofs.Cutting.{behind, ahead, first}
+use Rattle.std.proofs.Common.{◌-◌, arith, rules}
+use Rattle.std.proofs.ByRecursion.{All-from_get_or}
+use Rattle.std.proofs.lemmas.Grind.{common_steps}
+use Rattle.std.proofs.lemmas.Str.{IsCharBoundary-start, lead_after_ascii}
 use Rattle.language.proofs.words.first_word.Goals as goal
 
+-- a text may be cut behind a space
 pub split_at-requires : goal.split_at-requires
-split_at-requires c = behind c.args.line.now c.front-start.result (search rules) c.front-start.ensures.within c.front-start.ensures.alike
-
-pub split_at-requires-2 : goal.split_at-requires-2
-split_at-requires-2 c =
-    ahead c.split_at.result.1.now c.front-end.result c.front-end.ensures.within c.front-end.ensures.stops
+split_at-requires c = grind (arith, IsCharBoundary-start, lead_after_ascii c.args.line.now (c.front-start.result - 1))
 
 pub returns : goal.returns
-returns c =
-    simp (c.split_at-2.ensures.front, c.split_at-2.ensures.back)
-    (first c.args.line.now c.split_at.result.1.now c.front-start.result c.front-end.result c.split_at.ensures.back
-    c.front-start.ensures.alike c.front-start.ensures.stops c.front-end.ensures.alike c.front-end.ensures.stops)
+returns c = record {
+  gap = c.split_at.result.0.now;
+  cut = search (rules, common_steps);
+  blank = All-from_get_or _ _ 0 (search (rules, common_steps));
+  solid = All-from_get_or _ _ 0 (search (rules, common_steps));
+  ends = search (rules, common_steps);
+  none = search (rules, common_steps);
+}

@@ -1,3 +1,0 @@
-pub mod Calendars
-pub mod Points
-pub mod Commands
