@@ -32,6 +32,7 @@ impl<'a> TryFrom<&[&'a str]> for Command<'a> {
             ["place" | "stamp" | "parts", ..] => {
                 Ok(Command::Calendar(CalendarCommand::try_from(words)?))
             }
+            // Only a command on points is left; where the words spell none, its reader says why, of any line.
             _ => Ok(Command::Points(PointCommand::try_from(words)?)),
         }
     }
