@@ -21,14 +21,11 @@ fn told<C: Printable, L: Language>(heap: Global, reply: Reply<C>) -> Made<String
         Reply::Absent => String::from_str(heap, "ok absent"),
         Reply::Point(point) => format!(in heap; "ok {}", Form::shortest(point)),
         Reply::Set(set) => {
-            let calendar = PhantomData::<C>;
-            format!(in heap;
-                "ok {}",
-                SetText {
-                    set: &set,
-                    calendar
-                }
-            )
+            let set = SetText {
+                set: &set,
+                calendar: PhantomData::<C>,
+            };
+            format!(in heap; "ok {set}")
         }
         Reply::Commands => format!(in heap; "{}ok", L::HELP),
     }
