@@ -1,5 +1,5 @@
 -- How many ranges a set has.
-use Rattle.std.proofs.Common.{◌≡◌, ℕ, ◌+◌, ◌≤◌, Bool, true, false, not, ◌&&◌, List, length, is_ok, Ok, Err, Result, sym, refl, ap, ◌∙◌, arith}
+use Rattle.std.proofs.Common.{◌≡◌, ℕ, ◌+◌, ◌≤◌, Bool, true, false, not, ◌&&◌, ◌||◌, List, length, is_ok, Ok, Err, Result, sym, refl, ap, ◌∙◌, arith}
 use Rattle.stamps.specs.declared.sets.ReferenceSet.{ReferenceSet}
 use Rattle.calendar.specs.declared.refusals.Refusal.{Refusal}
 use Rattle.stamps.specs.declared.sets.Range.{Range}
@@ -28,13 +28,27 @@ combined op none a b s says =
     let w = short op none a b in
     omega (arith, w.short, counted s w.rs w.listed (λ p. says p ∙ sym (w.says p)))
 
--- the same of `without`, for other crates
+-- the same of each operation, for other crates
 pub without_never : (a b : ReferenceSet) (r : Result ReferenceSet Refusal) → length (listing a) + length (listing b) ≤ 16
     → Exactly r (λ p. has a p && not (has b p)) → is_ok r ≡ true
 without_never = never (λ x y. x && not y) refl
 
 pub without_few : (a b s : ReferenceSet) → ((p : ℕ) → has s p ≡ has a p && not (has b p)) → length (listing s) ≤ length (listing a) + length (listing b)
 without_few = combined (λ x y. x && not y) refl
+
+pub and_never : (a b : ReferenceSet) (r : Result ReferenceSet Refusal) → length (listing a) + length (listing b) ≤ 16
+    → Exactly r (λ p. has a p && has b p) → is_ok r ≡ true
+and_never = never (λ x y. x && y) refl
+
+pub and_few : (a b s : ReferenceSet) → ((p : ℕ) → has s p ≡ has a p && has b p) → length (listing s) ≤ length (listing a) + length (listing b)
+and_few = combined (λ x y. x && y) refl
+
+pub or_never : (a b : ReferenceSet) (r : Result ReferenceSet Refusal) → length (listing a) + length (listing b) ≤ 16
+    → Exactly r (λ p. has a p || has b p) → is_ok r ≡ true
+or_never = never (λ x y. x || y) refl
+
+pub or_few : (a b s : ReferenceSet) → ((p : ℕ) → has s p ≡ has a p || has b p) → length (listing s) ≤ length (listing a) + length (listing b)
+or_few = combined (λ x y. x || y) refl
 
 -- a set has at most 16 ranges
 pub most : (s : ReferenceSet) → length (listing s) ≤ 16

@@ -1,5 +1,5 @@
 -- What the reading methods of a `ReferenceSet` rest on.
-use Rattle.std.proofs.Common.{◌≡◌, ℕ, zero, suc, ◌+◌, ◌-◌, ◌*◌, ◌/◌, ◌<◌, ◌≤◌, Bool, ◌==◌, nat_eq, List, [], ◌∷◌, length, get_or, take, drop, replicate, Ok, Err, Result, sym, refl, ap, ◌∙◌, ⊎_elim, arith}
+use Rattle.std.proofs.Common.{◌≡◌, ℕ, zero, suc, ◌+◌, ◌-◌, ◌*◌, ◌/◌, ◌<◌, ◌≤◌, Bool, ◌==◌, nat_eq, List, [], ◌∷◌, length, get_or, take, drop, replicate, IfOk, Ok, Err, Result, sym, refl, ap, ◌∙◌, ⊎_elim, arith}
 use Rattle.std.specs.Bool.{Decides}
 use Rattle.std.specs.List.Sorted.{IsNonDecreasing}
 use Rattle.std.specs.Cmp.Lexicographic.{pointwise}
@@ -110,3 +110,8 @@ kept_decides a b =
       λ t. let same = kept.0 t in same_has a b same.0 same.1,
       λ same. kept.1 (same_parts a b same),
     )
+
+-- for a caller that passes the answer on
+pub made_like : (r : Result ReferenceSet Refusal) (f g : ℕ → Bool) → ((p : ℕ) → f p ≡ g p) → Exactly r f → IfOk r (λ s. (p : ℕ) → has s p ≡ g p)
+made_like (Ok s) f g same h = λ p. h p ∙ same p
+made_like (Err e) f g same h = tt

@@ -3,6 +3,8 @@ ghost use Rattle.stamps.specs.Ranges.{Listing, OneListing, most_ranges, range};
 ghost use Rattle.stamps.specs.Sets.{listing, has, same_kept, SamePlaces, Exactly};
 ghost use Rattle.calendar.specs.Orders.{place_limit};
 ghost use Rattle.std.specs.Prelude.{◌≡◌, ℕ, ◌<◌, ◌≤◌, min, false, not, ◌&&◌, ◌||◌, length, Decides, MatchOption, nat_le, slice_index_or};
+ghost use Rattle.std.specs.Cmp.Rules.{comparing};
+ghost use Rattle.std.proofs.Common.{rules};
 
 use crate::ranges::Ranges;
 use crate::sets::{EDGES, Range, ReferenceSet};
@@ -115,6 +117,21 @@ impl ReferenceSet {
         ensures { Exactly result (λ p. nat_le p (min last place_limit) && not (has self.now p)) }
     {
         ReferenceSet::full(last).without(self)
+    }
+}
+
+// Two sets are equal just if they have the same places. Written out, since a derived `==` tells its caller
+// only that it compares what is kept.
+impl PartialEq for ReferenceSet {
+    ghost eq = { same_kept };
+
+    ghost laws = { Prim.search (comparing, rules) };
+
+    fn eq(&self, other: &ReferenceSet) -> bool
+        ensures kept { result ≡ same_kept self.now other.now }
+        ensures places { Decides result ((p : ℕ) → has self.now p ≡ has other.now p) }
+    {
+        self.used == other.used && self.edges == other.edges
     }
 }
 

@@ -21,7 +21,7 @@ pub struct Range {
 // so that two sets are equal just if they have the same places.
 //
 // A length beside an array: there is no heap, a set is `Copy`, and the kit's `ArrayVec` is not.
-#[derive(Clone, Copy, PartialEq, Eq)]
+#[derive(Clone, Copy, Eq)]
 pub struct ReferenceSet {
     pub(crate) used: usize,
     pub(crate) edges: [u32; EDGES],
