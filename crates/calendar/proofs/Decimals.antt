@@ -1,8 +1,10 @@
 -- Numbers in decimal: how long they are, what they are made of, and that they tell the number.
-use Rattle.std.proofs.Common.{◌≡◌, ℕ, zero, suc, ◌+◌, ◌-◌, ◌*◌, ◌/◌, ◌%◌, ◌^◌, ◌<◌, ◌≤◌, List, [], ◌∷◌, ◌++◌, length, get_or, take, sym, refl, ap, ◌∙◌, subst, add-suc, pow-suc, add-one, arith}
+use Rattle.std.proofs.Common.{◌≡◌, ℕ, zero, suc, ◌+◌, ◌-◌, ◌*◌, ◌/◌, ◌%◌, ◌^◌, ◌<◌, ◌≤◌, true, List, [], ◌∷◌, ◌++◌, length, get_or, take, sym, refl, ap, ◌∙◌, subst, add-suc, pow-suc, add-one, arith}
 use Rattle.std.specs.List.{AllByRecursion}
 use Rattle.std.proofs.lemmas.List.{take_all, take_more, take-append-le, length_push, same_from_push, get_or_push, get_or_append_left}
-use Rattle.std.proofs.ByRecursion.{All-push, All-get_or}
+use Rattle.std.proofs.ByRecursion.{All-push, All-get_or, All-weaker}
+use Rattle.std.proofs.lemmas.Bool.Decides.{nat_tests}
+use Rattle.calendar.specs.Texts.{sign, Printed}
 use Rattle.calendar.specs.Decimals.{decimal, digit_byte, Spells}
 
 pub length-decimal : (k n : ℕ) → length (decimal k n) ≡ k
@@ -12,11 +14,17 @@ length-decimal (suc k) n = omega (arith, length_push (decimal k (n / 10)) (digit
 abbrev pub Digit : ℕ → Type 0
 Digit b = (48 ≤ b) × (b ≤ 57)
 
-all_decimal : (k n : ℕ) → AllByRecursion Digit (decimal k n)
+pub all_decimal : (k n : ℕ) → AllByRecursion Digit (decimal k n)
 all_decimal zero n = tt
 all_decimal (suc k) n = All-push Digit (decimal k (n / 10)) (48 + n % 10) (all_decimal k (n / 10)) (omega arith, omega arith)
 
-digit_at : (k n i : ℕ) → i < k → Digit (get_or (decimal k n) i 0)
+pub sign_digit : (b : ℕ) → Digit b → sign b ≡ true
+sign_digit b d = grind (arith, nat_tests)
+
+pub printed_decimal : (k n : ℕ) → Printed (decimal k n)
+printed_decimal k n = All-weaker Digit (λ b. sign b ≡ true) sign_digit (decimal k n) (all_decimal k n)
+
+pub digit_at : (k n i : ℕ) → i < k → Digit (get_or (decimal k n) i 0)
 digit_at k n i h = All-get_or Digit (decimal k n) i 0 (omega (arith, length-decimal k n)) (all_decimal k n)
 
 pub one_number : (k m n : ℕ) → m < 10 ^ k → n < 10 ^ k → decimal k m ≡ decimal k n → m ≡ n
@@ -27,6 +35,13 @@ one_number (suc k) m n a b e =
     let b' : n < 10 ^ k * 10 = omega (arith, pow-suc 10 k) in
     let q : m / 10 ≡ n / 10 = one_number k (m / 10) (n / 10) (omega arith) (omega arith) p.0 in
     omega (arith, p.1)
+
+-- a digit behind a number
+pub decimal_push : (k n d : ℕ) → d < 10 → decimal (suc k) (10 * n + d) ≡ decimal k n ++ ((48 + d) ∷ [])
+decimal_push k n d h =
+    let q : (10 * n + d) / 10 ≡ n = omega arith in
+    let r : (10 * n + d) % 10 ≡ d = omega arith in
+    rw (q, r)
 
 -- a byte before the last is one of what stands without the last digit,
 pub digit_left : (j k n i : ℕ) → j ≡ suc k → i < k → get_or (decimal j n) i 0 ≡ get_or (decimal k (n / 10)) i 0

@@ -9,9 +9,12 @@ pub fn digit(n: u32, count: usize, i: usize) -> Option<u8>
     if i >= count {
         return None;
     }
+    // Counted by hand: with a `for` here the compiler works out a stamp's parts for each byte of its text anew.
     let mut rest = n;
-    for _ in i + 1..count {
+    let mut left = count;
+    while left > i + 1 {
         rest /= 10;
+        left -= 1;
     }
     Some(b'0' + (rest % 10) as u8)
 }
@@ -23,7 +26,10 @@ pub fn number(bytes: &[u8]) -> Option<u32>
 {
     let mut n = 0u32;
     for b in bytes {
-        let digit = char::from(*b).to_digit(10)?;
+        let digit = match *b {
+            b'0'..=b'9' => u32::from(*b - b'0'),
+            _ => return None,
+        };
         n = n.checked_mul(10)?.checked_add(digit)?;
     }
     Some(n)

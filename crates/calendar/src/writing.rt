@@ -52,10 +52,13 @@ impl<C: Printable> fmt::Display for Text<C> {
     ghost output = { λ t. Some (C.Printable.text (C.Calendar.place t.0)) };
 
     fn fmt<W: fmt::Write>(&self, f: &mut fmt::Formatter<W>) -> fmt::Result {
+        // By value, so that what the bytes rest on is worked out once: each write could change what stands
+        // behind a reference.
+        let Text(stamp) = *self;
         // By position, since a text stands nowhere: a stamp gives each of its bytes when asked.
         for i in 0..C::WIDTH {
-            let byte = self.0.text_byte(i).unwrap();
-            f.write_char(char::from(byte))?;
+            let byte = stamp.text_byte(i).unwrap();
+            f.write_str(char::from(byte).encode_utf8(&mut [0; 4]))?;
         }
         Ok(())
     }

@@ -1,14 +1,15 @@
-use Rattle.std.proofs.Common.{ℕ, ◌+◌, ◌-◌, sym, ◌∙◌, arith}
+use Rattle.std.proofs.Common.{◌-◌, sym, ◌∙◌, arith}
 use Rattle.calendar.proofs.Decimals.{digit_left, digit_last}
 use Rattle.calendar.proofs.decimal.digit.Goals as goal
 
-pub loop-preserved : goal.loop-preserved
-loop-preserved c =
-    let left : ℕ = c.args.count + c.args.i + 1 - c.loop.counter in
-    let fewer : ℕ = c.args.count + c.args.i + 1 - (c.loop.counter + 1) in
-    sym (digit_left left fewer c.loop.rest c.args.i (omega arith) (omega arith)) ∙ c.loop.invariant
+pub loop-left-preserved : goal.loop-left-preserved
+loop-left-preserved c = (
+  omega arith,
+  sym (digit_left c.loop-left.left (c.loop-left.left - 1) c.loop-left.rest c.args.i (omega arith) (omega arith)) ∙ c.loop-left.invariant.1,
+)
 
 pub returns : goal.returns
-returns c =
-    let left : ℕ = c.args.count + c.args.i + 1 - c.loop.counter in
-    (omega arith, sym (digit_last left c.loop.rest c.args.i (omega arith)) ∙ c.loop.invariant)
+returns c = (
+  omega arith,
+  sym (digit_last c.loop-left.left c.loop-left.rest c.args.i (omega arith)) ∙ c.loop-left.invariant.1,
+)
