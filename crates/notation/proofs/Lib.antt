@@ -1,3 +1,5 @@
 pub mod Splits
+pub mod Signs
 pub mod Spellings
+pub mod Lengths
 pub mod Oneness

@@ -15,7 +15,7 @@ use Rattle.notation.proofs.Splits.{no_cut}
 use Rattle.notation.proofs.Spellings.{Style, Parted, parted, plain, filled_not, no_sign_now}
 
 module _ {C : Type 0} (c : Places C) (t : Texts C) (st : Style c t) where
-  abbrev Same : Form C → Form C → Type 0
+  abbrev pub Same : Form C → Form C → Type 0
   Same f g = (opens c f ≡ opens c g) × (closes c f ≡ closes c g)
 
   -- no stamp is written in small letters
@@ -57,7 +57,7 @@ module _ {C : Type 0} (c : Places C) (t : Texts C) (st : Style c t) where
   same_between q s (Until r) p = absurd (filled_not c t st q [] (sym p.0) refl)
   same_between q s (Between o r) p = (st.one_place o q p.0, st.one_place r s p.1)
 
-  same_places : (f g : Form C) → spelled c t f ≡ spelled c t g → Same f g
+  pub same_places : (f g : Form C) → spelled c t f ≡ spelled c t g → Same f g
   same_places f Now e = same_now f e
   same_places f (Fixed s) e = same_fixed s f e
   same_places f (Since s) e = same_since s f (parted c t st (t.text (c.place s)) [] (plain c t st s) f e)

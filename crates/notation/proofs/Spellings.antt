@@ -17,18 +17,17 @@ pub no_sign_now : Lacks plus now_text
 no_sign_now = (λ e. omega arith, (λ e. omega arith, (λ e. omega arith, tt)))
 
 -- no byte of a stamp's text is a sign or stray, and a sign is not stray
-no_sign : (b : ℕ) → sign b ≡ true → b ≡ plus → ⊥
+pub no_sign : (b : ℕ) → sign b ≡ true → b ≡ plus → ⊥
 no_sign b s e = grind (arith, nat_tests)
 
-not_stray : (b : ℕ) → sign b ≡ true → mark_of b ≡ Stray → ⊥
+pub not_stray : (b : ℕ) → sign b ≡ true → mark_of b ≡ Stray → ⊥
 not_stray b s = grind (arith, nat_tests)
 
-plus_not_stray : mark_of plus ≡ Stray → ⊥
+pub plus_not_stray : mark_of plus ≡ Stray → ⊥
 plus_not_stray e = cc
 
 -- what the laws of a calendar say of its stamps and their texts
 pub record Style {C : Type 0} (c : Places C) (t : Texts C) : Type 0 where
-  pub bounded : (s : C) → c.place s ≤ c.LAST_PLACE
   pub filled : (s : C) → 0 < length (t.text (c.place s))
   pub printed : (s : C) → Printed (t.text (c.place s))
   pub one_place : (r s : C) → t.text (c.place r) ≡ t.text (c.place s) → c.place r ≡ c.place s
@@ -36,7 +35,6 @@ pub record Style {C : Type 0} (c : Places C) (t : Texts C) : Type 0 where
 module _ {C : Type 0} (c : Places C) (t : Texts C) where
   pub style : ((s : C) → c.place s ≤ c.LAST_PLACE) → 1 ≤ t.WIDTH → ((n : ℕ) → n ≤ c.LAST_PLACE → length (t.text n) ≡ t.WIDTH) → ((n : ℕ) → n ≤ c.LAST_PLACE → Printed (t.text n)) → ((m n : ℕ) → m ≤ c.LAST_PLACE → n ≤ c.LAST_PLACE → t.text m ≡ t.text n → m ≡ n) → Style c t
   style bounded wide whole printed one = record {
-    bounded = bounded;
     filled = λ s. omega (arith, whole (c.place s) (bounded s));
     printed = λ s. printed (c.place s) (bounded s);
     one_place = λ r s. one (c.place r) (c.place s) (bounded r) (bounded s);
@@ -44,7 +42,7 @@ module _ {C : Type 0} (c : Places C) (t : Texts C) where
 
   -- the bytes are no stamp's text
   abbrev pub NoText : List ℕ → Type 0
-  NoText bytes = (n : ℕ) → n ≤ c.LAST_PLACE → t.text n ≡ bytes → ⊥
+  NoText bytes = (s : C) → t.text (c.place s) ≡ bytes → ⊥
 
   -- no byte is stray
   abbrev Tidy : List ℕ → Type 0
@@ -82,7 +80,7 @@ module _ {C : Type 0} (c : Places C) (t : Texts C) where
     -- a word with no sign
     pub none_plain : (word : List ℕ) → (word ≡ now_text → ⊥) → Lacks plus word → NoText word → Unspelled c t word
     none_plain word n l no_text Now e = n (sym e)
-    none_plain word n l no_text (Fixed s) e = no_text (c.place s) (st.bounded s) e
+    none_plain word n l no_text (Fixed s) e = no_text s e
     none_plain word n l no_text (Since s) e = no_cut plus (t.text (c.place s)) [] word l e
     none_plain word n l no_text (Until s) e = no_cut plus [] (t.text (c.place s)) word l e
     none_plain word n l no_text (Between r s) e = no_cut plus (t.text (c.place r)) (t.text (c.place s)) word l e
@@ -100,14 +98,14 @@ module _ {C : Type 0} (c : Places C) (t : Texts C) where
       pub none_before : (length before ≡ 0 → ⊥) → NoText before → Unspelled c t (before ++ (plus ∷ after))
       none_before z no_text Now e = parted Now e
       none_before z no_text (Fixed s) e = parted (Fixed s) e
-      none_before z no_text (Since s) e = no_text (c.place s) (st.bounded s) (parted (Since s) e).0
+      none_before z no_text (Since s) e = no_text s (parted (Since s) e).0
       none_before z no_text (Until s) e = z (ap length (sym (parted (Until s) e).0))
-      none_before z no_text (Between r s) e = no_text (c.place r) (st.bounded r) (parted (Between r s) e).0
+      none_before z no_text (Between r s) e = no_text r (parted (Between r s) e).0
 
       -- nor behind it
       pub none_after : (length after ≡ 0 → length before ≡ 0) → NoText after → Unspelled c t (before ++ (plus ∷ after))
       none_after z no_text Now e = parted Now e
       none_after z no_text (Fixed s) e = parted (Fixed s) e
       none_after z no_text (Since s) e = let p = parted (Since s) e in filled_not s before p.0 (z (ap length (sym p.1)))
-      none_after z no_text (Until s) e = no_text (c.place s) (st.bounded s) (parted (Until s) e).1
-      none_after z no_text (Between r s) e = no_text (c.place s) (st.bounded s) (parted (Between r s) e).1
+      none_after z no_text (Until s) e = no_text s (parted (Until s) e).1
+      none_after z no_text (Between r s) e = no_text s (parted (Between r s) e).1

@@ -10,20 +10,20 @@ here g =
 
 pub returns-in_err-read-in-true-default : goal.returns-in_err-read-in-true-default
 returns-in_err-read-in-true-default g c =
-    let none = none_after g.C.Calendar g.C.Printable (here g) c.args.before.now c.args.after.now c.requires (λ _. eqb-true _ 0 (sym c.in-true-default.ensures)) c.in_err-read-in-true-default.ensures.1 in
+    let none = none_after g.C.Calendar g.C.Printable (here g) c.args.before.now c.args.after.now c.requires (λ _. eqb-true _ 0 (sym c.in-true-default.ensures)) (λ s. c.in_err-read-in-true-default.ensures.1 _ (g.met.C.Calendar.bounded s)) in
     search rules
 
 pub returns-in_err-read-in-false-true : goal.returns-in_err-read-in-false-true
 returns-in_err-read-in-false-true g c =
-    let none = none_before g.C.Calendar g.C.Printable (here g) c.args.before.now c.args.after.now c.requires (eqb-false _ 0 (sym c.in-false-true.ensures)) c.in_err-read-in-false-true.ensures.1 in
+    let none = none_before g.C.Calendar g.C.Printable (here g) c.args.before.now c.args.after.now c.requires (eqb-false _ 0 (sym c.in-false-true.ensures)) (λ s. c.in_err-read-in-false-true.ensures.1 _ (g.met.C.Calendar.bounded s)) in
     search rules
 
 pub returns-in_err-read-in-false-false : goal.returns-in_err-read-in-false-false
 returns-in_err-read-in-false-false g c =
-    let none = none_before g.C.Calendar g.C.Printable (here g) c.args.before.now c.args.after.now c.requires (eqb-false _ 0 (sym c.in-false-false.ensures)) c.in_err-read-in-false-false.ensures.1 in
+    let none = none_before g.C.Calendar g.C.Printable (here g) c.args.before.now c.args.after.now c.requires (eqb-false _ 0 (sym c.in-false-false.ensures)) (λ s. c.in_err-read-in-false-false.ensures.1 _ (g.met.C.Calendar.bounded s)) in
     search rules
 
 pub returns-in_err-read-in-false-false-2 : goal.returns-in_err-read-in-false-false-2
 returns-in_err-read-in-false-false-2 g c =
-    let none = none_after g.C.Calendar g.C.Printable (here g) c.args.before.now c.args.after.now c.requires (λ e. absurd (eqb-false _ 0 (sym c.in-false-false.ensures') e)) c.in_err-read-in-false-false-2.ensures.1 in
+    let none = none_after g.C.Calendar g.C.Printable (here g) c.args.before.now c.args.after.now c.requires (λ e. absurd (eqb-false _ 0 (sym c.in-false-false.ensures') e)) (λ s. c.in_err-read-in-false-false-2.ensures.1 _ (g.met.C.Calendar.bounded s)) in
     search rules

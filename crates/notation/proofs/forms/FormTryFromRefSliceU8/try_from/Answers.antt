@@ -18,5 +18,5 @@ returns-in_err-at g c =
 
 pub returns-in_err-read-in-None : goal.returns-in_err-read-in-None
 returns-in_err-read-in-None g c =
-    let none = none_plain g.C.Calendar g.C.Printable (here g) c.args.word.now (λ e. false≢true (sym c.if-eq.false ∙ (slice_eq-Decides Decides-eqb _ _ _ c.eq.ensures).1 e)) (MatchOption-at_none _ _ c.in-None.is c.in_ok-at.ensures) c.in_err-read-in-None.ensures.1 in
+    let none = none_plain g.C.Calendar g.C.Printable (here g) c.args.word.now (λ e. false≢true (sym c.if-eq.false ∙ (slice_eq-Decides Decides-eqb _ _ _ c.eq.ensures).1 e)) (MatchOption-at_none _ _ c.in-None.is c.in_ok-at.ensures) (λ s. c.in_err-read-in-None.ensures.1 _ (g.met.C.Calendar.bounded s)) in
     search rules
