@@ -1,9 +1,7 @@
 // A walk over every stamp of a calendar.
 use crate::parted::Parted;
-use arrayvec::ArrayString;
-use calendar::{Printable, Refusal, Text};
-use std::fmt;
-use std::fmt::Write;
+use calendar::{Printable, Refusal};
+use std::{array, fmt};
 
 // The start and the factor of the 64-bit FNV-1a checksum.
 const FNV_BASIS: u64 = 0xcbf2_9ce4_8422_2325;
@@ -47,12 +45,16 @@ impl fmt::Display for Tally {
 }
 
 impl Tally {
-    fn meet<T: Parted>(&mut self, place: u32, stamp: T, text: &str, before: &str) {
-        let bytes = text.as_bytes();
+    fn meet<T: Parted>(&mut self, place: u32, stamp: T) {
+        let text = text_of(stamp);
+        let width = T::WIDTH.min(ROOM);
+        let bytes = &text[..width];
+        // Asked for anew, by the other way to a stamp, which is so tried at every place.
+        let before = text_of(T::at_or_last(place.saturating_sub(1)));
         self.stamps = counted(self.stamps, true);
         self.by_parts = counted(self.by_parts, is_again(place, stamp.by_parts()));
         self.by_text = counted(self.by_text, is_again(place, T::read(bytes)));
-        self.rising = counted(self.rising, before < text);
+        self.rising = counted(self.rising, &before[..width] < bytes);
         self.checksum = folded(folded(self.checksum, bytes), b"\n");
     }
 }
@@ -71,16 +73,12 @@ fn folded(checksum: u64, bytes: &[u8]) -> u64 {
     })
 }
 
-// The text of a stamp: empty where there is no room for it.
-fn text_of<T: Printable>(stamp: T) -> ArrayString<ROOM> {
-    let mut text = ArrayString::new();
-    if write!(text, "{}", Text(stamp)).is_err() {
-        text.clear();
-    }
-    text
+// The text of a stamp, byte by byte, since that call is tried here, and zeros after it.
+fn text_of<T: Printable>(stamp: T) -> [u8; ROOM] {
+    array::from_fn(|i| stamp.text_byte(i).unwrap_or(0))
 }
 
-// Each stamp in rising order, with its text and that of the stamp before.
+// Each stamp in rising order.
 pub fn walk<T: Parted>() -> Tally {
     let mut seen = Tally {
         stamps: 0,
@@ -89,12 +87,9 @@ pub fn walk<T: Parted>() -> Tally {
         rising: 0,
         checksum: FNV_BASIS,
     };
-    let mut before = text_of(T::first());
     for place in 0..=T::LAST_PLACE {
         if let Some(stamp) = T::at_place(place) {
-            let text = text_of(stamp);
-            seen.meet(place, stamp, text.as_str(), before.as_str());
-            before = text;
+            seen.meet(place, stamp);
         }
     }
     seen
